@@ -1,0 +1,4 @@
+-- Laws of tests, scans and fields.
+pub mod Tests
+pub mod Scan
+pub mod Field

@@ -1,0 +1,16 @@
+-- 16-bit fields, low byte first, and bytes written over the beginning of an area.
+use Prim.Native.Nat.{ℕ, suc, _+_, _*_, _/_, _%_}
+use mathlib.Core.List.{List, [], _∷_, _++_}
+use lib.ListN.{getD, length, drop}
+
+-- the 16-bit number at a place
+unfoldable pub word16 : List ℕ → ℕ → ℕ
+word16 bytes at = getD bytes at 0 + 256 * getD bytes (at + 1) 0
+
+-- the two bytes of a 16-bit number
+unfoldable pub bytes16 : ℕ → List ℕ
+bytes16 n = n % 256 ∷ n / 256 % 256 ∷ []
+
+-- an area that held `old`, with `new` written at its beginning
+unfoldable pub overwritten : List ℕ → List ℕ → List ℕ
+overwritten new old = new ++ drop (length new) old

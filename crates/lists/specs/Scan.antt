@@ -1,0 +1,61 @@
+-- Scans over the numbers below a bound: the first that passes a test, whether any does, how many do, which do; and lists made of them.
+-- Each recurses on the bound and looks at the highest number last, as a loop does.
+use Prim.Native.Nat.{ℕ, zero, suc, _+_}
+use mathlib.Core.Bool.{Bool, true, false, cond, _||_}
+use mathlib.Core.List.{List, [], _∷_, _++_}
+use mathlib.Core.Option.{Option, none, some}
+
+infixr 20 _else_
+-- the first, or where it is none the second
+unfoldable pub _else_ : {A : Type 0} → Option A → Option A → Option A
+_else_ none b = b
+_else_ (some a) b = some a
+
+-- what the option holds, or the given value
+unfoldable pub orGiven : {A : Type 0} → Option A → A → A
+orGiven none a = a
+orGiven (some b) a = b
+
+-- the lowest number below n that passes
+unfoldable pub first : (ℕ → Bool) → ℕ → Option ℕ
+first P zero = none
+first P (suc n) = first P n else cond (P n) (some n) none
+
+unfoldable pub pairWith : ℕ → Option ℕ → Option (ℕ × ℕ)
+pairWith u none = none
+pairWith u (some i) = some (u, i)
+
+-- the first pair (u, i), by u and then by i, with u below a and i below b, that passes
+unfoldable pub firstPair : (ℕ → ℕ → Bool) → ℕ → ℕ → Option (ℕ × ℕ)
+firstPair P zero b = none
+firstPair P (suc u) b = firstPair P u b else pairWith u (first (P u) b)
+
+-- the first of the answers g 0, .. , g (n - 1) that is one
+unfoldable pub firstAnswer : {A : Type 0} → (ℕ → Option A) → ℕ → Option A
+firstAnswer g zero = none
+firstAnswer g (suc n) = firstAnswer g n else g n
+
+-- some number below n passes
+unfoldable pub anyBelow : (ℕ → Bool) → ℕ → Bool
+anyBelow P zero = false
+anyBelow P (suc n) = anyBelow P n || P n
+
+-- how many numbers below n pass
+unfoldable pub countBelow : (ℕ → Bool) → ℕ → ℕ
+countBelow P zero = 0
+countBelow P (suc n) = countBelow P n + cond (P n) 1 0
+
+-- the numbers below n that pass, in order
+unfoldable pub select : (ℕ → Bool) → ℕ → List ℕ
+select P zero = []
+select P (suc n) = select P n ++ cond (P n) (n ∷ []) []
+
+-- g from, g (from + 1), .. , n of them
+unfoldable pub tabulate : {A : Type 0} → (ℕ → A) → ℕ → ℕ → List A
+tabulate g from zero = []
+tabulate g from (suc n) = g from ∷ tabulate g (suc from) n
+
+-- the lists g 0, .. , g (n - 1), end to end
+unfoldable pub gather : {A : Type 0} → (ℕ → List A) → ℕ → List A
+gather g zero = []
+gather g (suc n) = gather g n ++ g n

@@ -1,0 +1,1 @@
+// Lists and scans, in specs/ and proofs/; no code.

@@ -1,0 +1,15 @@
+-- Document 01 as definitions, in its order, and the statements of what is proved of them.
+pub mod Inputs
+pub mod Refusals
+pub mod Values
+pub mod Simulation
+pub mod Starts
+pub mod Simulate
+pub mod Implication
+pub mod Expansion
+pub mod Sequences
+pub mod Grade
+pub mod Choose
+pub mod Group
+pub mod Listing
+pub mod Specimens

@@ -1,0 +1,67 @@
+-- The specimens of document 01 as jobs, and the eleven verdicts that it gives for them.
+use mathlib.Core.Path.{_≡_}
+use Prim.Native.Nat.{ℕ, _+_, _*_, _-_}
+use mathlib.Core.List.{List, [], _∷_, _++_, map}
+use lib.ListN.{length, replicate}
+use Rattle.lists.specs.Field.{bytes16}
+use Rattle.model.specs.Inputs.{Fault}
+use Rattle.model.specs.Grade.{Verdict, grade}
+use Rattle.model.specs.Choose.{planBytes}
+
+-- line numbers as 16-bit fields
+unfoldable pub fields16 : List ℕ → List ℕ
+fields16 [] = []
+fields16 (n ∷ ns) = bytes16 n ++ fields16 ns
+
+-- a circuit record: kind, output mark, pins
+unfoldable pub lineOf : ℕ → ℕ → List ℕ → List ℕ
+lineOf kind output pins = kind ∷ length pins ∷ output ∷ 0 ∷ fields16 pins ++ replicate (8 - 2 * length pins) 0
+
+-- A: input 0; flip-flop 1 of 3, output; 2 = NOT 1; 3 = AND 0, 2.
+unfoldable pub specimenA : List ℕ
+specimenA = lineOf 0 0 [] ++ lineOf 1 1 (3 ∷ []) ++ lineOf 3 0 (1 ∷ []) ++ lineOf 4 0 (0 ∷ 2 ∷ [])
+
+-- B: input 0; flip-flop 1 of 2, output; 2 = AND 0, 1.
+unfoldable pub specimenB : List ℕ
+specimenB = lineOf 0 0 [] ++ lineOf 1 1 (2 ∷ []) ++ lineOf 4 0 (0 ∷ 1 ∷ [])
+
+-- D: input 0; flip-flop 1 of 1; 2 = NOT 1; outputs 3 = OR 0, 1 and 4 = OR 0, 2.
+unfoldable pub specimenD : List ℕ
+specimenD = lineOf 0 0 [] ++ lineOf 1 0 (1 ∷ []) ++ lineOf 3 0 (1 ∷ []) ++ lineOf 6 1 (0 ∷ 1 ∷ []) ++ lineOf 6 1 (0 ∷ 2 ∷ [])
+
+unfoldable pub stuckAt : ℕ → ℕ → ℕ → Fault
+stuckAt line pin value = record { line = line; pin = pin; value = value }
+
+-- a record's first eight fields
+unfoldable pub eightFields : Verdict → List ℕ
+eightFields v = v .verdict ∷ v .m ∷ v .time ∷ v .line ∷ v .differing ∷ v .clashing ∷ v .surviving ∷ v .start ∷ []
+
+unfoldable pub gradedSpecimens : List Verdict
+gradedSpecimens =
+    grade specimenA (0 ∷ 0 ∷ 0 ∷ []) (stuckAt 0 0 1) [] 6
+    ∷ grade specimenA (0 ∷ 0 ∷ 0 ∷ []) (stuckAt 0 0 0) [] 6
+    ∷ grade specimenA (0 ∷ 0 ∷ 0 ∷ []) (stuckAt 3 0 1) [] 6
+    ∷ grade specimenA (0 ∷ 0 ∷ 0 ∷ []) (stuckAt 3 1 1) [] 6
+    ∷ grade specimenB (0 ∷ 0 ∷ []) (stuckAt 0 0 1) [] 6
+    ∷ grade specimenB (0 ∷ 0 ∷ []) (stuckAt 0 0 1) [] 0
+    ∷ grade specimenB (0 ∷ 0 ∷ []) (stuckAt 0 0 1) (planBytes ((0, 0) ∷ [])) 6
+    ∷ grade specimenB (0 ∷ 0 ∷ []) (stuckAt 0 0 1) (planBytes ((0, 0) ∷ (1, 0) ∷ [])) 6
+    ∷ grade specimenD (1 ∷ []) (stuckAt 0 0 0) [] 6
+    ∷ grade specimenD (1 ∷ []) (stuckAt 0 0 0) (planBytes ((0, 0) ∷ [])) 6
+    ∷ grade specimenD (1 ∷ 1 ∷ []) (stuckAt 0 0 0) [] 6
+    ∷ []
+
+unfoldable pub elevenVerdicts : List (List ℕ)
+elevenVerdicts =
+    (3 ∷ 0 ∷ 0 ∷ 0 ∷ 1 ∷ 0 ∷ 0 ∷ 0 ∷ [])
+    ∷ (5 ∷ 0 ∷ 0 ∷ 0 ∷ 0 ∷ 0 ∷ 0 ∷ 0 ∷ [])
+    ∷ (1 ∷ 0 ∷ 1 ∷ 1 ∷ 0 ∷ 0 ∷ 0 ∷ 0 ∷ [])
+    ∷ (3 ∷ 0 ∷ 0 ∷ 0 ∷ 1 ∷ 0 ∷ 0 ∷ 0 ∷ [])
+    ∷ (6 ∷ 0 ∷ 0 ∷ 0 ∷ 0 ∷ 0 ∷ 1 ∷ 0 ∷ [])
+    ∷ (7 ∷ 0 ∷ 0 ∷ 0 ∷ 0 ∷ 0 ∷ 1 ∷ 0 ∷ [])
+    ∷ (6 ∷ 1 ∷ 0 ∷ 0 ∷ 1 ∷ 0 ∷ 1 ∷ 0 ∷ [])
+    ∷ (6 ∷ 2 ∷ 0 ∷ 0 ∷ 1 ∷ 2 ∷ 1 ∷ 0 ∷ [])
+    ∷ (4 ∷ 0 ∷ 0 ∷ 0 ∷ 0 ∷ 0 ∷ 1 ∷ 0 ∷ [])
+    ∷ (3 ∷ 1 ∷ 0 ∷ 0 ∷ 2 ∷ 0 ∷ 0 ∷ 0 ∷ [])
+    ∷ (2 ∷ 0 ∷ 1 ∷ 1 ∷ 0 ∷ 0 ∷ 0 ∷ 0 ∷ [])
+    ∷ []
