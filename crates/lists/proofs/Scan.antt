@@ -13,7 +13,7 @@ use Rattle.lists.specs.Scan.{_else_, orGiven, first, pairWith, firstPair
 use Rattle.lists.proofs.Tests.{or-left-false, or-right-false, cond-cases}
 
 -- ---- the first answer
-else-some {ℓ} : {A : Type 0} {B : Type ℓ} (a b : Option A) (m : A) → a else b ≡ some m → (a ≡ some m → B) → (a ≡ none → b ≡ some m → B) → B
+pub else-some {ℓ} : {A : Type 0} {B : Type ℓ} (a b : Option A) (m : A) → a else b ≡ some m → (a ≡ some m → B) → (a ≡ none → b ≡ some m → B) → B
 unfolding _else_
 else-some none b m e f g = g refl e
 else-some (some a) b m e f g = f e

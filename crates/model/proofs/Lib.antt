@@ -2,3 +2,14 @@
 pub mod Specimens
 pub mod Allows
 pub mod Total
+pub mod Implication
+pub mod Runs
+pub mod Rows
+pub mod Sound
+pub mod Accepted
+pub mod Stages
+pub mod Promise
+pub mod Bounds
+pub mod Records
+pub mod Choose
+pub mod Theorems

@@ -29,34 +29,31 @@ pub record Verdict : Type 0 where
 unfoldable pub placed : ℕ → ℕ → ℕ → Verdict
 placed v time line = record { verdict = v; m = 0; time = time; line = line; differing = 0; clashing = 0; surviving = 0; start = 0 }
 
+-- the verdict that a pair gives, if one was found
+unfoldable pub atPair : (ℕ → ℕ → Verdict) → Option (ℕ × ℕ) → Option Verdict
+atPair make none = none
+atPair make (some q) = some (make (q .0) (q .1))
+
 module _ (c t : List ℕ) (f : Fault) where
   -- output n at unit u shows the opposite of its fault-free value
   unfoldable pub opposedAt : ℕ → ℕ → Bool
   opposedAt u n = isOutput c n && opposes (shown noFault (freeValues c t u) n) (shown f (plainValues c t f u) n)
 
-  unfoldable pub atPlace : ℕ → Option (ℕ × ℕ) → Option Verdict
-  atPlace v none = none
-  atPlace v (some q) = some (placed v (q .0) (q .1))
-
   -- Plain responses oppose: verdict 1, with the lowest time unit, and in it the lowest line number.
   unfoldable pub stage1 : Option Verdict
-  stage1 = atPlace 1 (firstPair (λ u n. opposedAt u n) (L c t) (N c))
+  stage1 = atPair (λ u n. placed 1 u n) (firstPair (λ u n. opposedAt u n) (L c t) (N c))
 
   -- No u has both above 0: verdict 5.
   unfoldable pub stage2 : Option Verdict
   stage2 = cond (anyBelow (λ u. ltb 0 (nsv c t f u) && ltb 0 (nout c t f u)) (L c t)) none (some (placed 5 0 0))
 
-  unfoldable pub atPair : Option (ℕ × ℕ) → Option Verdict
-  atPair none = none
-  atPair (some q) = some (placed 2 (q .0) (flipFlopLine c (q .1)))
-
   -- First pair with both marked: verdict 2, with u and the flip-flop's line.
   unfoldable pub stage3 : Option Verdict
-  stage3 = atPair (firstPair (λ u i. bothMarked c t f u i) (L c t) (F c))
+  stage3 = atPair (λ u i. placed 2 u (flipFlopLine c i)) (firstPair (λ u i. bothMarked c t f u i) (L c t) (F c))
 
   -- A write against an opposite value: verdict 2, with the writing pair's u and its flip-flop's line.
   unfoldable pub stage4 : Option Verdict
-  stage4 = atPair (firstPair (λ u i. opposedWrite c t f u i) (L c t) (F c))
+  stage4 = atPair (λ u i. placed 2 u (flipFlopLine c i)) (firstPair (λ u i. opposedWrite c t f u i) (L c t) (F c))
 
   unfoldable pub beforeStage5 : Option Verdict
   beforeStage5 = stage1 else stage2 else stage3 else stage4

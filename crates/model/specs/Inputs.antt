@@ -97,8 +97,5 @@ faultAt fs j = record { line = word16 fs (4 * j); pin = getD fs (4 * j + 2) 0; v
 unfoldable pub planCount : List ℕ → ℕ
 planCount p = length p / 4
 
-unfoldable pub planTime : List ℕ → ℕ → ℕ
-planTime p q = word16 p (4 * q)
-
-unfoldable pub planIndex : List ℕ → ℕ → ℕ
-planIndex p q = word16 p (4 * q + 2)
+unfoldable pub planPair : List ℕ → ℕ → ℕ × ℕ
+planPair p n = (word16 p (4 * n), word16 p (4 * n + 2))

@@ -13,3 +13,4 @@ pub mod Choose
 pub mod Group
 pub mod Listing
 pub mod Specimens
+pub mod Promises

@@ -5,7 +5,7 @@ use mathlib.Core.List.{List, [], _∷_, _++_}
 use lib.ListN.{getD, length}
 use lib.Dec.{eqb, ltb}
 use Rattle.lists.specs.Scan.{countBelow}
-use Rattle.model.specs.Inputs.{F, L, inputsAt, Fault, planCount, planTime, planIndex}
+use Rattle.model.specs.Inputs.{F, L, inputsAt, Fault, planCount, planPair}
 use Rattle.model.specs.Values.{X, isSpecified, giveRow, hasConflict, someOppose}
 use Rattle.model.specs.Simulation.{lineValues, outputs, nextState, freeOutputs}
 use Rattle.model.specs.Expansion.{nout, extra, nothing, stateRow}
@@ -46,12 +46,14 @@ module _ (c t : List ℕ) (f : Fault) where
       && isOpen u
       && not (touches pairs u (extra c t f u i 0)) && not (touches pairs u (extra c t f u i 1))
 
-  -- Take plan pairs in order, no more than k pairs taken in all: those taken of the first n.
+  -- no more than k pairs taken in all
+  unfoldable pub takeNext : ℕ → List (ℕ × ℕ) → ℕ × ℕ → List (ℕ × ℕ)
+  takeNext k pairs q = cond (ltb (length pairs) k && takes pairs (q .0) (q .1)) (pairs ++ (q ∷ [])) pairs
+
+  -- Take plan pairs in order: those taken of the first n.
   unfoldable pub takenOf : List ℕ → ℕ → ℕ → List (ℕ × ℕ)
   takenOf p k zero = []
-  takenOf p k (suc n) =
-      let pairs = takenOf p k n in
-      cond (ltb (length pairs) k && takes pairs (planTime p n) (planIndex p n)) (pairs ++ ((planTime p n, planIndex p n) ∷ [])) pairs
+  takenOf p k (suc n) = takeNext k (takenOf p k n) (planPair p n)
 
   unfoldable pub taken : List ℕ → ℕ → List (ℕ × ℕ)
   taken p k = takenOf p k (planCount p)

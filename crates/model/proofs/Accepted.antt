@@ -1,0 +1,201 @@
+-- What is not refused is as the proofs want it: the rows of the table, read backwards.
+use mathlib.Core.Path.{_≡_, refl, sym, ap, _∙_}
+use Prim.Native.Nat.{ℕ, zero, suc, _+_, _*_, _/_, _%_, _≤_, _<_}
+use mathlib.Core.Bool.{Bool, true, false, cond, not, _&&_, _||_, true≢false}
+use mathlib.Core.List.{List, [], _∷_}
+use mathlib.Core.Option.{Option, none, some, Option·some-ne-none}
+use lib.ListN.{getD, length}
+use lib.Dec.{eqb, leb, ltb}
+use native.Mathlib.Omega.{arith}
+use native.Mathlib.Decide.{decLe}
+use native.Mathlib.Nat.{div-add-mod', zero-mul}
+use borrow.Author.Tests.{eqb-true, eqb-false, leb-true, leb-false, ltb-true, ltb-false, not-false, ne-eqb}
+use Rattle.lists.specs.Scan.{_else_, firstAnswer, anyBelow}
+use Rattle.lists.proofs.Tests.{and-left, and-right, or-left-false, or-right-false}
+use Rattle.lists.proofs.Scan.{else-none, firstAnswer-none, anyBelow-false}
+use Rattle.model.specs.Inputs.{N, kind, pinCount, pinLine, isFlipFlop, isGate, I, F, O, L, Fault, faultCount, faultAt}
+use Rattle.model.specs.Refusals.{Refusal, refuse, row1, pinsFit, spareUsed, misnames, rows2to5, row6, circuitRows, row7, row8, row9, faultFits, row10, row11, row12, row13, row14, gradeRefusal, chooseRefusal}
+use Rattle.model.proofs.Total.{Total, TotalRow, bit-total}
+use Rattle.model.proofs.Implication.{gate-kind}
+use Rattle.model.proofs.Runs.{Valid}
+use Rattle.model.proofs.Sound.{Accepted}
+
+refuse-none : (b : Bool) (number position : ℕ) → refuse b number position ≡ none → b ≡ false
+unfolding refuse
+refuse-none true number position e = absurd (Option·some-ne-none (number, position) e)
+refuse-none false number position e = refl
+
+-- ---- records
+record Fits (c : List ℕ) (n : ℕ) : Type 0 where
+  low : kind c n ≤ 9
+  count : pinsFit (kind c n) (pinCount c n) ≡ true
+  named : misnames c n ≡ false
+
+fits : (c : List ℕ) (n : ℕ) → rows2to5 c n ≡ none → Fits c n
+unfolding rows2to5
+fits c n e =
+    let a = else-none (refuse (ltb 9 (kind c n)) 2 n) _ e in
+    let b = else-none (refuse (not (pinsFit (kind c n) (pinCount c n))) 3 n) _ (a .1) in
+    let d = else-none (refuse (spareUsed c n) 4 n) _ (b .1) in
+    record {
+      low = ltb-false 9 (kind c n) (refuse-none _ 2 n (a .0));
+      count = not-false _ (refuse-none _ 3 n (b .0));
+      named = refuse-none _ 5 n (d .1);
+    }
+
+pins-cases : (x y : Bool) (p : ℕ) → x ≡ false → cond x (eqb p 0) (cond y (eqb p 1) (leb 2 p && leb p 4)) ≡ true → 0 < p
+pins-cases true y p h e = absurd (true≢false h)
+pins-cases false true p h e = omega (arith, eqb-true p 1 e)
+pins-cases false false p h e = omega (arith, leb-true 2 p (and-left (leb 2 p) _ e))
+
+has-pin : (k p : ℕ) → pinsFit k p ≡ true → 1 ≤ k → 0 < p
+unfolding pinsFit
+has-pin k p e h = pins-cases (eqb k 0) (leb k 3) p (ne-eqb k 0 (λ q. (let z : ⊥ = omega arith in z))) e
+
+named-at : (c : List ℕ) (n i : ℕ) → misnames c n ≡ false → i < pinCount c n → leb (cond (isGate c n) n (N c)) (pinLine c n (i + 1)) ≡ false
+unfolding misnames
+named-at c n i e h = anyBelow-false (λ i. leb (cond (isGate c n) n (N c)) (pinLine c n (i + 1))) (pinCount c n) i e h
+
+flip-flop-kind : (c : List ℕ) (n : ℕ) → isFlipFlop c n ≡ true → kind c n ≡ 1
+unfolding isFlipFlop
+flip-flop-kind c n e = eqb-true (kind c n) 1 e
+
+flip-flop-no-gate : (c : List ℕ) (n : ℕ) → isFlipFlop c n ≡ true → isGate c n ≡ false
+unfolding isGate
+flip-flop-no-gate c n e = rw (flip-flop-kind c n e)
+
+valid : (c : List ℕ) → firstAnswer (λ n. rows2to5 c n) (N c) ≡ none → Valid c
+valid c e = record {
+  kinds = λ n h. at n h .low;
+  pinned = λ n h g. has-pin _ _ (at n h .count) (omega (arith, gate-kind c n g));
+  lower = λ n i h g k.
+      let next : i + 1 ≡ suc i = omega arith in
+      leb-false n (pinLine c n (suc i)) (rw (g, next) at (named-at c n i (at n h .named) k));
+  fed = λ n h g.
+      let one : 0 < pinCount c n = has-pin _ _ (at n h .count) (omega (arith, flip-flop-kind c n g)) in
+      leb-false (N c) (pinLine c n 1) (rw (flip-flop-no-gate c n g) at (named-at c n 0 (at n h .named) one));
+}
+  where
+    at : (n : ℕ) → n < N c → Fits c n
+    at n h = fits c n (firstAnswer-none (λ n. rows2to5 c n) (N c) n e h)
+
+positive : (n : ℕ) → eqb n 0 ≡ false → 0 < n
+positive zero e = absurd (true≢false e)
+positive (suc n) e = omega arith
+
+-- ---- the circuit
+pub record GoodCircuit (c : List ℕ) : Type 0 where
+  pub records : Valid c
+  pub lines : N c ≤ 4096
+  pub inputs : 0 < I c
+  pub flipFlops : F c ≤ 256
+
+pub goodCircuit : (c : List ℕ) → circuitRows c ≡ none → GoodCircuit c
+unfolding circuitRows row1 row6 N
+goodCircuit c e =
+    let a = else-none (row1 c) _ e in
+    let b = else-none (firstAnswer (λ n. rows2to5 c n) (N c)) _ (a .1) in
+    let size : eqb (length c) 0 || not (eqb (length c % 12) 0) || ltb 49152 (length c) ≡ false = refuse-none _ 1 0 (a .0) in
+    let short : length c ≤ 49152 = ltb-false 49152 (length c) (or-right-false (eqb (length c) 0 || not (eqb (length c % 12) 0)) _ size) in
+    let ends : eqb (I c) 0 || eqb (O c) 0 || ltb 256 (I c) || ltb 256 (F c) || ltb 256 (O c) ≡ false = refuse-none _ 6 0 (b .1) in
+    let most : eqb (I c) 0 || eqb (O c) 0 || ltb 256 (I c) || ltb 256 (F c) ≡ false = or-left-false _ (ltb 256 (O c)) ends in
+    record {
+      records = valid c (b .0);
+      lines = omega arith;
+      inputs = positive _ (or-left-false _ (eqb (O c) 0) (or-left-false _ (ltb 256 (I c)) (or-left-false _ (ltb 256 (F c)) most)));
+      flipFlops = ltb-false 256 (F c) (or-right-false (eqb (I c) 0 || eqb (O c) 0 || ltb 256 (I c)) _ most);
+    }
+
+-- ---- the test
+total-test : (t : List ℕ) → ((b : ℕ) → b < length t → getD t b 0 ≤ 1) → TotalRow t
+unfolding TotalRow
+total-test [] h = tt
+total-test (x ∷ t) h = (bit-total x (omega (arith, h 0 (omega arith))), total-test t (λ b q. h (suc b) (omega arith)))
+
+units-positive : (n i : ℕ) → 0 < n → n % i ≡ 0 → 0 < n / i
+units-positive n i h e = elim (decLe 1 (n / i)) [
+  | yes g ↦ g
+  | no g ↦ (
+      let z : n / i ≡ 0 = omega arith in
+      let q : n / i * i + n % i ≡ n = div-add-mod' n i in
+      let w : 0 * i + 0 ≡ n = rw (z, e) at q in
+      omega (arith, zero-mul i))
+]
+
+pub record GoodTest (c t : List ℕ) : Type 0 where
+  pub bytes : TotalRow t
+  pub some : 0 < L c t
+  pub most : L c t ≤ 1024
+
+pub goodTest : (c t : List ℕ) → row7 c t ≡ none → row8 t ≡ none → GoodTest c t
+unfolding row7 row8 L
+goodTest c t e g =
+    let size : eqb (length t) 0 || not (eqb (length t % I c) 0) || ltb 1024 (L c t) ≡ false = refuse-none _ 7 0 e in
+    let whole : eqb (length t) 0 || not (eqb (length t % I c) 0) ≡ false = or-left-false _ (ltb 1024 (L c t)) size in
+    record {
+      bytes = total-test t (λ b q. ltb-false 1 (getD t b 0) (refuse-none _ 8 b (firstAnswer-none (λ b. refuse (ltb 1 (getD t b 0)) 8 b) (length t) b g q)));
+      some = units-positive (length t) (I c) (positive _ (or-left-false _ _ whole)) (eqb-true _ _ (not-false _ (or-right-false (eqb (length t) 0) _ whole)));
+      most = ltb-false 1024 (L c t) (or-right-false (eqb (length t) 0 || not (eqb (length t % I c) 0)) _ size);
+    }
+
+-- ---- the faults
+fault-value : (c : List ℕ) (f : Fault) → faultFits c f ≡ true → Total (f .value)
+unfolding faultFits
+fault-value c f e =
+    bit-total (f .value) (omega (arith, leb-true (f .value) 1 (and-right (ltb (f .line) (N c) && leb (f .pin) (pinCount c (f .line))) _ e)))
+
+pub goodFault : (c fs : List ℕ) (j : ℕ) → row10 c fs ≡ none → j < faultCount fs → Total (faultAt fs j .value)
+unfolding row10
+goodFault c fs j e h =
+    fault-value c (faultAt fs j)
+    (not-false _ (refuse-none _ 10 j (firstAnswer-none (λ j. refuse (not (faultFits c (faultAt fs j))) 10 j) (faultCount fs) j e h)))
+
+-- ---- what the calls have in common: circuit, test and one fault
+pub accepted : (c t fs : List ℕ) (j : ℕ) → GoodCircuit c → GoodTest c t → row10 c fs ≡ none → j < faultCount fs → Accepted c t (faultAt fs j)
+accepted c t fs j good test e h = record {
+  circuit = good .records;
+  test = test .bytes;
+  inputs = good .inputs;
+  units = test .some;
+  value = goodFault c fs j e h;
+}
+
+-- ---- a job that Grade accepts
+pub record GradeJob (c t fs p : List ℕ) (k work result : ℕ) : Type 0 where
+  pub circuit : GoodCircuit c
+  pub test : GoodTest c t
+  pub faults : row10 c fs ≡ none
+  pub limit : k ≤ 12
+  pub room : 16 * faultCount fs ≤ result
+
+pub gradeJob : (c t fs p : List ℕ) (k work result : ℕ) → gradeRefusal c t fs p k work result ≡ none → GradeJob c t fs p k work result
+unfolding gradeRefusal row12 row14
+gradeJob c t fs p k work result e =
+    let a = else-none (circuitRows c) _ e in
+    let b = else-none (row7 c t) _ (a .1) in
+    let d = else-none (row8 t) _ (b .1) in
+    let f = else-none (row9 0 32768 fs) _ (d .1) in
+    let g = else-none (row10 c fs) _ (f .1) in
+    let h = else-none (row11 p) _ (g .1) in
+    let i = else-none (row12 k) _ (h .1) in
+    let j = else-none (row13 c t work) _ (i .1) in
+    record {
+      circuit = goodCircuit c (a .0);
+      test = goodTest c t (b .0) (d .0);
+      faults = g .0;
+      limit = ltb-false 12 k (refuse-none _ 12 0 (i .0));
+      room = ltb-false result (16 * faultCount fs) (refuse-none _ 14 0 (j .1));
+    }
+
+-- ---- a job that Choose accepts
+pub record ChooseJob (c t : List ℕ) : Type 0 where
+  pub circuit : GoodCircuit c
+  pub test : GoodTest c t
+
+pub chooseJob : (c t fs : List ℕ) (k work result : ℕ) → chooseRefusal c t fs k work result ≡ none → ChooseJob c t
+unfolding chooseRefusal
+chooseJob c t fs k work result e =
+    let a = else-none (circuitRows c) _ e in
+    let b = else-none (row7 c t) _ (a .1) in
+    let d = else-none (row8 t) _ (b .1) in
+    record { circuit = goodCircuit c (a .0); test = goodTest c t (b .0) (d .0) }

@@ -1,0 +1,130 @@
+-- Every verdict lies between 1 and 7, every field of a record fits its bytes, and the counts sum to 2^m.
+use mathlib.Core.Path.{_≡_, refl, sym, ap, _∙_}
+use Prim.Native.Nat.{ℕ, zero, suc, _+_, _*_, _^_, _≤_, _<_}
+use mathlib.Core.Bool.{Bool, true, false, cond, _&&_, false≢true}
+use mathlib.Core.List.{List, [], _∷_, _++_}
+use lib.ListN.{length, length-append}
+use lib.Dec.{eqb, ltb}
+use lib.Pow.{pow-mono}
+use native.Mathlib.Omega.{arith}
+use borrow.Author.Tests.{ltb-true, leb-true}
+use Rattle.lists.specs.Scan.{countBelow}
+use Rattle.lists.proofs.Tests.{and-left, cond-cases, clash}
+use Rattle.lists.proofs.Scan.{countBelow-bound}
+use Rattle.model.specs.Inputs.{N, flipFlopLine, F, L, inputsAt, Fault, planCount, planPair}
+use Rattle.model.specs.Values.{giveRow, hasConflict, someOppose}
+use Rattle.model.specs.Simulation.{lineValues, outputs, nextState, freeOutputs}
+use Rattle.model.specs.Starts.{freeBits, startCount}
+use Rattle.model.specs.Sequences.{takes, takeNext, takenOf, taken, ending, endOf, countEnding, survives, differing, clashing}
+use Rattle.model.specs.Grade.{Verdict, placed, counted, grade}
+use Rattle.model.specs.Promises.{carriesCounts, InBounds}
+use Rattle.model.proofs.Runs.{flipFlopLine-holds}
+use Rattle.model.proofs.Stages.{grade-cases}
+
+-- ---- a sequence ends in one of three ways
+module _ (c t : List ℕ) (f : Fault) where
+  ending-bound : (pairs : List (ℕ × ℕ)) (b u left : ℕ) (state : List ℕ) → ending c t f pairs b u left state ≤ 2
+  unfolding ending
+  ending-bound pairs b u zero state = omega arith
+  ending-bound pairs b u (suc left) state =
+      cond-cases (λ (e : ℕ). e ≤ 2) (someOppose (freeOutputs c t u) (outputs c f (lineValues c f (inputsAt c t u) state))) differing _
+      (λ _. omega arith)
+      (λ _. cond-cases (λ (e : ℕ). e ≤ 2) (hasConflict _) clashing _ (λ _. omega arith) (λ _. ending-bound pairs b (suc u) left _))
+
+  endOf-bound : (pairs : List (ℕ × ℕ)) (b : ℕ) → endOf c t f pairs b ≤ 2
+  unfolding endOf
+  endOf-bound pairs b = ending-bound pairs b 0 (L c t) _
+
+  three-ways : (e : ℕ) → e ≤ 2 → cond (eqb e 1) 1 0 + cond (eqb e 2) 1 0 + cond (eqb e 0) 1 0 ≡ 1
+  three-ways zero h = refl
+  three-ways (suc zero) h = refl
+  three-ways (suc (suc zero)) h = refl
+  three-ways (suc (suc (suc e))) h = absurd (let z : ⊥ = omega arith in z)
+
+  counts-sum : (g : ℕ → ℕ) → ((b : ℕ) → g b ≤ 2) → (n : ℕ)
+      → countBelow (λ b. eqb (g b) 1) n + countBelow (λ b. eqb (g b) 2) n + countBelow (λ b. eqb (g b) 0) n ≡ n
+  unfolding countBelow
+  counts-sum g h zero = refl
+  counts-sum g h (suc n) = omega (arith, counts-sum g h n, three-ways (g n) (h n))
+
+  endings-sum : (pairs : List (ℕ × ℕ))
+      → countEnding c t f pairs differing + countEnding c t f pairs clashing + countEnding c t f pairs survives ≡ 2 ^ length pairs
+  unfolding countEnding
+  endings-sum pairs = counts-sum (λ b. endOf c t f pairs b) (λ b. endOf-bound pairs b) (2 ^ length pairs)
+
+  -- ---- no more than k pairs are taken
+  takenOf-bound : (p : List ℕ) (k n : ℕ) → length (takenOf c t f p k n) ≤ k
+  unfolding takenOf takeNext
+  takenOf-bound p k zero = omega arith
+  takenOf-bound p k (suc n) =
+      let pairs = takenOf c t f p k n in
+      let q = planPair p n in
+      cond-cases (λ (qs : List (ℕ × ℕ)). length qs ≤ k) (ltb (length pairs) k && takes c t f pairs (q .0) (q .1)) _ pairs
+      (λ e.
+      let room : length pairs < k = ltb-true (length pairs) k (and-left (ltb (length pairs) k) _ e) in
+      rw length-append (omega arith))
+      (λ _. takenOf-bound p k n)
+
+  pub taken-bound : (p : List ℕ) (k : ℕ) → length (taken c t f p k) ≤ k
+  unfolding taken
+  taken-bound p k = takenOf-bound p k (planCount p)
+
+  power-bound : (n k : ℕ) → n ≤ k → k ≤ 12 → 2 ^ n ≤ 4096
+  power-bound n k h l = pow-mono {i = n} {j = 12} (omega arith)
+
+  count-bound : (pairs : List (ℕ × ℕ)) (e k : ℕ) → length pairs ≤ k → k ≤ 12 → countEnding c t f pairs e < 65536
+  unfolding countEnding
+  count-bound pairs e k h l = omega (arith, countBelow-bound (λ b. eqb (endOf c t f pairs b) e) (2 ^ length pairs), power-bound (length pairs) k h l)
+
+  -- ---- the record
+  placed-bounds : (k v time line : ℕ) → 1 ≤ v → v ≤ 7 → carriesCounts v ≡ false → time < 65536 → line < 65536 → InBounds k (placed v time line)
+  unfolding placed
+  placed-bounds k v time line a b n h l = record {
+    low = a;
+    high = b;
+    pairs = omega arith;
+    m = omega arith;
+    time = h;
+    line = l;
+    differing = omega arith;
+    clashing = omega arith;
+    surviving = omega arith;
+    start = omega arith;
+    sum = λ e. clash _ e n;
+  }
+
+  counted-bounds : (p : List ℕ) (k v start : ℕ) → k ≤ 12 → 1 ≤ v → v ≤ 7 → start < 65536 → InBounds k (counted c t f p k v start)
+  unfolding counted
+  counted-bounds p k v start l a b h =
+      let pairs = taken c t f p k in
+      let n : length pairs ≤ k = taken-bound p k in
+      record {
+        low = a;
+        high = b;
+        pairs = n;
+        m = omega arith;
+        time = omega arith;
+        line = omega arith;
+        differing = count-bound pairs differing k n l;
+        clashing = count-bound pairs clashing k n l;
+        surviving = count-bound pairs survives k n l;
+        start = h;
+        sum = λ _. endings-sum pairs;
+      }
+
+  -- for jobs within the table's limits
+  pub bounds : (p : List ℕ) (k : ℕ) → N c ≤ 4096 → L c t ≤ 1024 → k ≤ 12 → InBounds k (grade c t f p k)
+  unfolding startCount
+  bounds p k n l h =
+      grade-cases (InBounds k) c t f p k
+      (λ u m d. placed-bounds k 1 u m (omega arith) (omega arith) refl (omega (arith, d .row)) (omega (arith, d .place)))
+      (λ _ _. placed-bounds k 5 0 0 (omega arith) (omega arith) refl (omega arith) (omega arith))
+      (λ u i d. pair u i (d .row) (d .place))
+      (λ u i d. pair u i (d .row) (d .place))
+      (λ _. counted-bounds p k 3 0 h (omega arith) (omega arith) (omega arith))
+      (λ _ _. counted-bounds p k 4 0 h (omega arith) (omega arith) (omega arith))
+      (λ s e d. counted-bounds p k 6 s h (omega arith) (omega arith) (omega (arith, d .below, power-bound (freeBits c) k (leb-true _ _ e) h)))
+      (λ _. counted-bounds p k 7 0 h (omega arith) (omega arith) (omega arith))
+    where
+      pair : (u i : ℕ) → u < L c t → i < F c → InBounds k (placed 2 u (flipFlopLine c i))
+      pair u i r q = placed-bounds k 2 u (flipFlopLine c i) (omega arith) (omega arith) refl (omega arith) (omega (arith, flipFlopLine-holds c i q .0))

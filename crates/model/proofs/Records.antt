@@ -1,0 +1,79 @@
+-- The records that Grade writes read back as the verdicts, each from its own 16 bytes.
+use mathlib.Core.Path.{_≡_, refl, sym, ap, _∙_}
+use Prim.Native.Nat.{ℕ, zero, suc, _+_, _*_, _≤_, _<_}
+use mathlib.Core.List.{List, [], _∷_, _++_}
+use mathlib.Core.Option.{none}
+use lib.ListN.{getD, length, take, drop, length-drop}
+use lib.Seq.{drop-append-le, take-append-le}
+use native.Mathlib.Omega.{arith}
+use native.Mathlib.Nat.{mul-le-mul-left}
+use Rattle.lists.specs.Scan.{gather}
+use Rattle.lists.specs.Field.{word16, bytes16, overwritten}
+use Rattle.lists.proofs.Scan.{length-gather, gather-part}
+use Rattle.lists.proofs.Field.{word-back, byte-of-part, word-of-part}
+use Rattle.model.specs.Inputs.{Fault, faultCount, faultAt}
+use Rattle.model.specs.Refusals.{unlessRefused, gradeRefusal}
+use Rattle.model.specs.Grade.{Verdict, grade, recordBytes, recordAt, gradeBytes, gradeArea}
+use Rattle.model.specs.Promises.{InBounds, recordPart}
+
+length-record : (v : Verdict) → length (recordBytes v) ≡ 16
+unfolding recordBytes bytes16
+length-record v = refl
+
+-- a record of 16 bytes, read back
+record-back : (k : ℕ) (v : Verdict) → InBounds k v → recordAt (recordBytes v) 0 ≡ v
+unfolding recordAt recordBytes bytes16 word16
+record-back k v b =
+    rw (
+      word-back (v .time) (b .time),
+      word-back (v .line) (b .line),
+      word-back (v .differing) (b .differing),
+      word-back (v .clashing) (b .clashing),
+      word-back (v .surviving) (b .surviving),
+      word-back (v .start) (b .start),
+    )
+
+-- a record is read from its own 16 bytes
+recordAt-part : (area : List ℕ) (j : ℕ) → recordAt area j ≡ recordAt (recordPart area j) 0
+unfolding recordAt
+recordAt-part area j =
+    let here : 16 * j ≡ 16 * j + 0 = omega arith in
+    let first : getD area (16 * j) 0 ≡ getD (recordPart area j) 0 0 = ap (λ (a : ℕ). getD area a 0) here ∙ byte-of-part area (16 * j) 16 0 (omega arith) in
+    rw (
+      first,
+      byte-of-part area (16 * j) 16 1 (omega arith),
+      word-of-part area (16 * j) 16 2 (omega arith),
+      word-of-part area (16 * j) 16 4 (omega arith),
+      word-of-part area (16 * j) 16 6 (omega arith),
+      word-of-part area (16 * j) 16 8 (omega arith),
+      word-of-part area (16 * j) 16 10 (omega arith),
+      word-of-part area (16 * j) 16 12 (omega arith),
+    )
+
+module _ (c t fs p : List ℕ) (k work : ℕ) (old : List ℕ) (e : gradeRefusal c t fs p k work (length old) ≡ none) where
+  length-gradeBytes : length (gradeBytes c t fs p k) ≡ 16 * faultCount fs
+  unfolding gradeBytes
+  length-gradeBytes = length-gather (λ j. recordBytes (grade c t (faultAt fs j) p k)) 16 (λ j. length-record _) (faultCount fs)
+
+  bytes-part : (j : ℕ) → j < faultCount fs → take 16 (drop (16 * j) (gradeBytes c t fs p k)) ≡ recordBytes (grade c t (faultAt fs j) p k)
+  unfolding gradeBytes
+  bytes-part j h = gather-part (λ j. recordBytes (grade c t (faultAt fs j) p k)) 16 (λ j. length-record _) (faultCount fs) j h
+
+  -- record j of the area is the record of fault j
+  pub area-part : (j : ℕ) → j < faultCount fs → recordPart (gradeArea c t fs p k work old) j ≡ recordBytes (grade c t (faultAt fs j) p k)
+  unfolding gradeArea unlessRefused overwritten
+  area-part j h =
+      let up : 16 * suc j ≤ 16 * faultCount fs = mul-le-mul-left 16 h in
+      let l : length (gradeBytes c t fs p k) ≡ 16 * faultCount fs = length-gradeBytes in
+      let left : 16 ≤ length (drop (16 * j) (gradeBytes c t fs p k)) = rw length-drop (omega arith) in
+      rw e
+      (ap (take 16) (drop-append-le (16 * j) (gradeBytes c t fs p k) _ (omega arith))
+      ∙ take-append-le 16 (drop (16 * j) (gradeBytes c t fs p k)) _ left
+      ∙ bytes-part j h)
+
+  pub area-record : (j : ℕ) → j < faultCount fs → InBounds k (grade c t (faultAt fs j) p k)
+      → recordAt (gradeArea c t fs p k work old) j ≡ grade c t (faultAt fs j) p k
+  area-record j h b =
+      recordAt-part (gradeArea c t fs p k work old) j
+      ∙ ap (λ (part : List ℕ). recordAt part 0) (area-part j h)
+      ∙ record-back k _ b

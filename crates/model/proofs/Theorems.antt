@@ -1,0 +1,53 @@
+-- The theorems, for every input. What each says is defined in specs/Promises.
+use mathlib.Core.Path.{_≡_, sym, subst, ap, _∙_}
+use Prim.Native.Nat.{ℕ, _≤_, _<_}
+use mathlib.Core.List.{List}
+use mathlib.Core.Option.{none}
+use lib.ListN.{length}
+use native.Mathlib.Omega.{arith}
+use Rattle.model.specs.Inputs.{Fault, faultCount, faultAt}
+use Rattle.model.specs.Refusals.{gradeRefusal, chooseRefusal}
+use Rattle.model.specs.Grade.{Verdict, grade, recordBytes, recordAt, gradeArea}
+use Rattle.model.specs.Promises.{Promise, Demand3, InBounds, recordPart, WellChosen}
+use Rattle.model.proofs.Accepted.{GradeJob, gradeJob, accepted, ChooseJob, chooseJob}
+use Rattle.model.proofs.Promise.{promise}
+use Rattle.model.proofs.Bounds.{bounds}
+use Rattle.model.proofs.Records.{area-part, area-record}
+use Rattle.model.proofs.Choose.{well-chosen}
+
+module _ (c t fs p : List ℕ) (k work : ℕ) (old : List ℕ) (e : gradeRefusal c t fs p k work (length old) ≡ none) (j : ℕ) (h : j < faultCount fs) where
+  verdict-bounds : InBounds k (grade c t (faultAt fs j) p k)
+  verdict-bounds =
+      let job : GradeJob c t fs p k work (length old) = gradeJob c t fs p k work (length old) e in
+      bounds c t (faultAt fs j) p k (job .circuit .lines) (job .test .most) (job .limit)
+
+  -- the record that Grade writes for fault j reads back as that fault's verdict: nothing is lost in the 16 bytes
+  pub reads-back : recordAt (gradeArea c t fs p k work old) j ≡ grade c t (faultAt fs j) p k
+  reads-back = area-record c t fs p k work old e j h verdict-bounds
+
+  -- every record that Grade writes is in its bounds
+  pub in-bounds : InBounds k (recordAt (gradeArea c t fs p k work old) j)
+  in-bounds = rw reads-back verdict-bounds
+
+-- demand 3, of the bytes that Grade writes
+pub demand-three : (c t fs p : List ℕ) (k work : ℕ) (old : List ℕ) → Demand3 c t fs p k work old (gradeArea c t fs p k work old)
+demand-three c t fs p k work old e j h =
+    let job : GradeJob c t fs p k work (length old) = gradeJob c t fs p k work (length old) e in
+    rw (reads-back c t fs p k work old e j h)
+    (promise c t (faultAt fs j) (accepted c t fs j (job .circuit) (job .test) (job .faults) h) p k)
+
+-- a record depends on its own fault, never on others in the list
+pub own-fault : (c t fs gs p : List ℕ) (k work room : ℕ) (old held : List ℕ)
+    → gradeRefusal c t fs p k work (length old) ≡ none → gradeRefusal c t gs p k room (length held) ≡ none
+    → (j i : ℕ) → j < faultCount fs → i < faultCount gs → faultAt fs j ≡ faultAt gs i
+    → recordPart (gradeArea c t fs p k work old) j ≡ recordPart (gradeArea c t gs p k room held) i
+own-fault c t fs gs p k work room old held e d j i h l same =
+    area-part c t fs p k work old e j h
+    ∙ ap (λ (f : Fault). recordBytes (grade c t f p k)) same
+    ∙ sym (area-part c t gs p k room held d i l)
+
+-- Choose's pairs, for every job that it accepts
+pub chosen-well : (c t fs : List ℕ) (k work result : ℕ) → chooseRefusal c t fs k work result ≡ none → WellChosen c t (faultAt fs 0) k
+chosen-well c t fs k work result e =
+    let job : ChooseJob c t = chooseJob c t fs k work result e in
+    well-chosen c t (faultAt fs 0) k (omega (arith, job .test .most)) (omega (arith, job .circuit .flipFlops))

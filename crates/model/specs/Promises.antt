@@ -1,0 +1,74 @@
+-- What is promised of the result bytes, for every accepted job. The theorems are in proofs/Theorems.
+use mathlib.Core.Path.{_≡_}
+use mathlib.Core.Logic.{_↔_}
+use Prim.Native.Nat.{ℕ, _+_, _*_, _^_, _≤_, _<_}
+use mathlib.Core.Bool.{Bool, true, false, _||_}
+use mathlib.Core.List.{List}
+use mathlib.Core.Option.{none}
+use lib.ListN.{length, take, drop}
+use lib.Dec.{eqb}
+use Rattle.model.specs.Inputs.{Fault, faultCount, faultAt}
+use Rattle.model.specs.Refusals.{gradeRefusal, chooseRefusal}
+use Rattle.model.specs.Starts.{freeBits, startCount, differs}
+use Rattle.model.specs.Sequences.{takes, taken}
+use Rattle.model.specs.Grade.{Verdict, grade, recordAt, gradeArea, beforeStage5}
+use Rattle.model.specs.Choose.{chosen, planBytes}
+
+-- every starting state of the circuit with the fault differs
+abbrev pub EveryDiffers : List ℕ → List ℕ → Fault → Type 0
+EveryDiffers c t f = (s : ℕ) → s < startCount c → differs c t f s ≡ true
+
+-- some starting state never does
+abbrev pub SomeNever : List ℕ → List ℕ → Fault → Type 0
+SomeNever c t f = (s : ℕ) × (s < startCount c) × (differs c t f s ≡ false)
+
+-- s is the lowest starting state that never differs
+pub record LowestNever (c t : List ℕ) (f : Fault) (s : ℕ) : Type 0 where
+  pub state : s < startCount c
+  pub never : differs c t f s ≡ false
+  pub lowest : (r : ℕ) → r < s → differs c t f r ≡ true
+
+-- Demand 3, of one record's verdict and start. Verdicts 1 to 4 are given only if every starting state differs; 5 and 6 only if some
+-- starting state never does, and verdict 6 names the lowest such state. Where the flip-flops number at most k, verdicts 1 to 4 are given
+-- exactly when every starting state differs, 5 or 6 exactly when some never does, and 7, undecided, never.
+pub record Promise (c t : List ℕ) (f : Fault) (k verdict start : ℕ) : Type 0 where
+  pub detected : 1 ≤ verdict → verdict ≤ 4 → EveryDiffers c t f
+  pub undetected : 5 ≤ verdict → verdict ≤ 6 → SomeNever c t f
+  pub names : verdict ≡ 6 → LowestNever c t f start
+  pub exactlyDetected : freeBits c ≤ k → ((1 ≤ verdict) × (verdict ≤ 4)) ↔ EveryDiffers c t f
+  pub exactlyUndetected : freeBits c ≤ k → ((5 ≤ verdict) × (verdict ≤ 6)) ↔ SomeNever c t f
+  pub decided : freeBits c ≤ k → verdict ≡ 7 → ⊥
+
+-- demand 3 of every record in an area that Grade has written: a clause of Grade's contract
+abbrev pub Demand3 : List ℕ → List ℕ → List ℕ → List ℕ → ℕ → ℕ → List ℕ → List ℕ → Type 0
+Demand3 c t fs p k work old new =
+    gradeRefusal c t fs p k work (length old) ≡ none → (j : ℕ) → j < faultCount fs
+    → Promise c t (faultAt fs j) k (recordAt new j .verdict) (recordAt new j .start)
+
+-- verdicts 3, 4, 6, 7 carry m and the three counts
+abbrev pub carriesCounts : ℕ → Bool
+carriesCounts v = eqb v 3 || eqb v 4 || eqb v 6 || eqb v 7
+
+-- Every verdict lies between 1 and 7, every field fits its 8 or 16 bits, and where a record carries counts they sum to 2^m.
+pub record InBounds (k : ℕ) (v : Verdict) : Type 0 where
+  pub low : 1 ≤ v .verdict
+  pub high : v .verdict ≤ 7
+  pub pairs : v .m ≤ k
+  pub m : v .m < 256
+  pub time : v .time < 65536
+  pub line : v .line < 65536
+  pub differing : v .differing < 65536
+  pub clashing : v .clashing < 65536
+  pub surviving : v .surviving < 65536
+  pub start : v .start < 65536
+  pub sum : carriesCounts (v .verdict) ≡ true → v .differing + v .clashing + v .surviving ≡ 2 ^ v .m
+
+-- the 16 bytes of record j
+abbrev pub recordPart : List ℕ → ℕ → List ℕ
+recordPart area j = take 16 (drop (16 * j) area)
+
+-- Of the pairs that Choose writes: every one is taken by Grade with the same k and just these pairs as the plan, and Choose stops early
+-- only when no pair could be taken; each is one that stage 5 would take next, and none that it would take is better.
+pub record WellChosen (c t : List ℕ) (f : Fault) (k : ℕ) : Type 0 where
+  pub taken : taken c t f (planBytes (chosen c t f k)) k ≡ chosen c t f k
+  pub stops : beforeStage5 c t f ≡ none → length (chosen c t f k) < k → (u i : ℕ) → takes c t f (chosen c t f k) u i ≡ false
