@@ -1,6 +1,6 @@
 -- Laws of tests: what a conjunction or a disjunction tells of its parts, and a case on a test that keeps what it found.
 use mathlib.Core.Path.{_≡_, refl, sym, _∙_}
-use mathlib.Core.Bool.{Bool, true, false, cond, not, _&&_, _||_, false≢true, true≢false}
+use mathlib.Core.Bool.{Bool, true, false, cond, _&&_, _||_, false≢true, true≢false}
 
 pub and-left : (s t : Bool) → s && t ≡ true → s ≡ true
 and-left true t e = refl

@@ -1,7 +1,7 @@
 -- Scans over the numbers below a bound: the first that passes a test, whether any does, how many do, which do; and lists made of them.
 -- Each recurses on the bound and looks at the highest number last, as a loop does.
 use Prim.Native.Nat.{ℕ, zero, suc, _+_}
-use mathlib.Core.Bool.{Bool, true, false, cond, _||_}
+use mathlib.Core.Bool.{Bool, false, cond, _||_}
 use mathlib.Core.List.{List, [], _∷_, _++_}
 use mathlib.Core.Option.{Option, none, some}
 

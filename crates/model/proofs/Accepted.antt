@@ -1,20 +1,20 @@
 -- What is not refused is as the proofs want it: the rows of the table, read backwards.
-use mathlib.Core.Path.{_≡_, refl, sym, ap, _∙_}
+use mathlib.Core.Path.{_≡_, refl}
 use Prim.Native.Nat.{ℕ, zero, suc, _+_, _*_, _/_, _%_, _≤_, _<_}
 use mathlib.Core.Bool.{Bool, true, false, cond, not, _&&_, _||_, true≢false}
 use mathlib.Core.List.{List, [], _∷_}
-use mathlib.Core.Option.{Option, none, some, Option·some-ne-none}
+use mathlib.Core.Option.{none, some, Option·some-ne-none}
 use lib.ListN.{getD, length}
 use lib.Dec.{eqb, leb, ltb}
 use native.Mathlib.Omega.{arith}
 use native.Mathlib.Decide.{decLe}
 use native.Mathlib.Nat.{div-add-mod', zero-mul}
-use borrow.Author.Tests.{eqb-true, eqb-false, leb-true, leb-false, ltb-true, ltb-false, not-false, ne-eqb}
-use Rattle.lists.specs.Scan.{_else_, firstAnswer, anyBelow}
+use borrow.Author.Tests.{eqb-true, leb-true, leb-false, ltb-false, not-false, ne-eqb}
+use Rattle.lists.specs.Scan.{firstAnswer}
 use Rattle.lists.proofs.Tests.{and-left, and-right, or-left-false, or-right-false}
 use Rattle.lists.proofs.Scan.{else-none, firstAnswer-none, anyBelow-false}
 use Rattle.model.specs.Inputs.{N, kind, pinCount, pinLine, isFlipFlop, isGate, I, F, O, L, Fault, faultCount, faultAt}
-use Rattle.model.specs.Refusals.{Refusal, refuse, row1, pinsFit, spareUsed, misnames, rows2to5, row6, circuitRows, row7, row8, row9, faultFits, row10, row11, row12, row13, row14, gradeRefusal, chooseRefusal}
+use Rattle.model.specs.Refusals.{refuse, row1, pinsFit, spareUsed, misnames, rows2to5, row6, circuitRows, row7, row8, row9, faultFits, row10, row11, row12, row13, row14, gradeRefusal, chooseRefusal}
 use Rattle.model.proofs.Total.{Total, TotalRow, bit-total}
 use Rattle.model.proofs.Implication.{gate-kind}
 use Rattle.model.proofs.Runs.{Valid}

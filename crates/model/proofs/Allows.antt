@@ -1,7 +1,7 @@
 -- What is known allows a value: where a state allows another, its line values, next states and outputs allow those of the other, unit by
 -- unit. So a run from a starting state is allowed by plain simulation.
 use mathlib.Core.Path.{_≡_, refl}
-use Prim.Native.Nat.{ℕ, zero, suc, _%_, _/_}
+use Prim.Native.Nat.{ℕ, zero, suc, _/_}
 use mathlib.Core.Bool.{Bool, true, false, cond}
 use mathlib.Core.List.{List, [], _∷_, _++_, map}
 use lib.ListN.{getD}

@@ -1,8 +1,8 @@
 -- Every verdict lies between 1 and 7, every field of a record fits its bytes, and the counts sum to 2^m.
-use mathlib.Core.Path.{_≡_, refl, sym, ap, _∙_}
-use Prim.Native.Nat.{ℕ, zero, suc, _+_, _*_, _^_, _≤_, _<_}
-use mathlib.Core.Bool.{Bool, true, false, cond, _&&_, false≢true}
-use mathlib.Core.List.{List, [], _∷_, _++_}
+use mathlib.Core.Path.{_≡_, refl}
+use Prim.Native.Nat.{ℕ, zero, suc, _+_, _^_, _≤_, _<_}
+use mathlib.Core.Bool.{false, cond, _&&_}
+use mathlib.Core.List.{List}
 use lib.ListN.{length, length-append}
 use lib.Dec.{eqb, ltb}
 use lib.Pow.{pow-mono}
@@ -12,11 +12,11 @@ use Rattle.lists.specs.Scan.{countBelow}
 use Rattle.lists.proofs.Tests.{and-left, cond-cases, clash}
 use Rattle.lists.proofs.Scan.{countBelow-bound}
 use Rattle.model.specs.Inputs.{N, flipFlopLine, F, L, inputsAt, Fault, planCount, planPair}
-use Rattle.model.specs.Values.{giveRow, hasConflict, someOppose}
-use Rattle.model.specs.Simulation.{lineValues, outputs, nextState, freeOutputs}
+use Rattle.model.specs.Values.{hasConflict, someOppose}
+use Rattle.model.specs.Simulation.{lineValues, outputs, freeOutputs}
 use Rattle.model.specs.Starts.{freeBits, startCount}
 use Rattle.model.specs.Sequences.{takes, takeNext, takenOf, taken, ending, endOf, countEnding, survives, differing, clashing}
-use Rattle.model.specs.Grade.{Verdict, placed, counted, grade}
+use Rattle.model.specs.Grade.{placed, counted, grade}
 use Rattle.model.specs.Promises.{carriesCounts, InBounds}
 use Rattle.model.proofs.Runs.{flipFlopLine-holds}
 use Rattle.model.proofs.Stages.{grade-cases}

@@ -2,16 +2,16 @@
 -- assignment exists there is no conflict.
 use mathlib.Core.Path.{_≡_, refl, sym, ap, _∙_}
 use Prim.Native.Nat.{ℕ, zero, suc, _+_, _≤_, _<_}
-use mathlib.Core.Bool.{Bool, true, false, cond, not, _&&_, _||_, false≢true, or-true}
+use mathlib.Core.Bool.{true, false, not, _&&_, false≢true, or-true}
 use mathlib.Core.List.{List, [], _∷_}
-use lib.ListN.{getD, length, set}
+use lib.ListN.{getD, length}
 use lib.Dec.{leb}
 use native.Mathlib.Omega.{arith}
 use borrow.Author.Tests.{leb-true, not-true}
 use Rattle.lists.proofs.Tests.{and-left, and-right, or-cases, cond-cases}
 use Rattle.lists.proofs.Scan.{length-tabulate, getD-tabulate}
 use Rattle.model.specs.Inputs.{N, kind, pinCount, pinLine, isGate, Fault}
-use Rattle.model.specs.Values.{X, isSpecified, gate, give, giveRow, hasConflict, opposes, someOppose}
+use Rattle.model.specs.Values.{X, isSpecified, gate, give, hasConflict, opposes, someOppose}
 use Rattle.model.specs.Simulation.{isStuck, seen, pinSeen, pinsSeen}
 use Rattle.model.specs.Implication.{implies, giveLine, givePins, downLine, down, upLine, up, implied}
 use Rattle.model.proofs.Allows.{Allows, AllowsRow, gate-allows, pinsSeen-allows, getD-allows}

@@ -11,5 +11,6 @@ pub mod Stages
 pub mod Promise
 pub mod Bounds
 pub mod Records
+pub mod Best
 pub mod Choose
 pub mod Theorems

@@ -1,17 +1,16 @@
 -- The records that Grade writes read back as the verdicts, each from its own 16 bytes.
-use mathlib.Core.Path.{_≡_, refl, sym, ap, _∙_}
-use Prim.Native.Nat.{ℕ, zero, suc, _+_, _*_, _≤_, _<_}
-use mathlib.Core.List.{List, [], _∷_, _++_}
+use mathlib.Core.Path.{_≡_, refl, ap, _∙_}
+use Prim.Native.Nat.{ℕ, suc, _+_, _*_, _≤_, _<_}
+use mathlib.Core.List.{List}
 use mathlib.Core.Option.{none}
 use lib.ListN.{getD, length, take, drop, length-drop}
 use lib.Seq.{drop-append-le, take-append-le}
 use native.Mathlib.Omega.{arith}
 use native.Mathlib.Nat.{mul-le-mul-left}
-use Rattle.lists.specs.Scan.{gather}
 use Rattle.lists.specs.Field.{word16, bytes16, overwritten}
 use Rattle.lists.proofs.Scan.{length-gather, gather-part}
 use Rattle.lists.proofs.Field.{word-back, byte-of-part, word-of-part}
-use Rattle.model.specs.Inputs.{Fault, faultCount, faultAt}
+use Rattle.model.specs.Inputs.{faultCount, faultAt}
 use Rattle.model.specs.Refusals.{unlessRefused, gradeRefusal}
 use Rattle.model.specs.Grade.{Verdict, grade, recordBytes, recordAt, gradeBytes, gradeArea}
 use Rattle.model.specs.Promises.{InBounds, recordPart}

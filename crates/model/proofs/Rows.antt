@@ -1,10 +1,10 @@
 -- Rows of state bits that allow the state of a run, starting states, and what outputs show of lines.
 use mathlib.Core.Path.{_≡_, refl, sym, ap, _∙_}
-use Prim.Native.Nat.{ℕ, zero, suc, _+_, _/_, _%_, _≤_, _<_}
-use mathlib.Core.Bool.{Bool, true, false, cond, _&&_, _||_, false≢true, or-false, or-assoc}
+use Prim.Native.Nat.{ℕ, zero, suc, _/_, _%_}
+use mathlib.Core.Bool.{Bool, true, false, cond, _&&_, _||_, or-false, or-assoc}
 use mathlib.Core.List.{List, [], _∷_, _++_, map}
 use lib.ListN.{getD, length, set, replicate}
-use lib.Dec.{eqb, leb}
+use lib.Dec.{eqb}
 use native.Mathlib.Omega.{arith}
 use Rattle.lists.specs.Scan.{anyBelow, select}
 use Rattle.lists.proofs.Tests.{or-left-false, or-right-false}
@@ -12,7 +12,7 @@ use Rattle.model.specs.Values.{X, isSpecified, giveRow, opposes, someOpp
 use Rattle.model.specs.Starts.{bits}
 use Rattle.model.specs.Expansion.{countX, countOpen, whereX}
 use Rattle.model.proofs.Allows.{Allows, AllowsRow}
-use Rattle.model.proofs.Total.{Total, TotalRow, bit-total, nil-total, cons-total}
+use Rattle.model.proofs.Total.{TotalRow, bit-total, nil-total, cons-total}
 use Rattle.model.proofs.Implication.{give-allows}
 
 -- ---- rows that allow one and the same row

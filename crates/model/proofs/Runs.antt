@@ -1,21 +1,19 @@
 -- A run from a total state is total, and in each unit its values are settled.
 use mathlib.Core.Path.{_≡_, refl, sym, ap, _∙_}
-use Prim.Native.Nat.{ℕ, zero, suc, _+_, _*_, _≤_, _<_}
-use mathlib.Core.Bool.{Bool, true, false, cond}
-use mathlib.Core.List.{List, [], _∷_, _++_, map}
+use Prim.Native.Nat.{ℕ, zero, suc, _+_, _≤_, _<_}
+use mathlib.Core.Bool.{true, false}
+use mathlib.Core.List.{List, [], _∷_, map}
 use lib.ListN.{getD, length, length-append, List·getD-append, length-map}
 use lib.Seq.{getD-at}
-use lib.Dec.{eqb, leb}
+use lib.Dec.{eqb}
 use native.Mathlib.Omega.{arith}
 use native.Mathlib.Decide.{decLe}
-use borrow.Author.Tests.{eqb-true, eqb-false, le-leb, leb-false, ne-eqb}
-use Rattle.lists.specs.Scan.{countBelow, select}
+use borrow.Author.Tests.{eqb-false, le-leb, ne-eqb}
 use Rattle.lists.proofs.Tests.{cond-cases}
 use Rattle.lists.proofs.Scan.{countBelow-less, tabulate-same, All, all-at, select-all, length-select}
 use Rattle.model.specs.Inputs.{N, kind, pinCount, pinLine, isInput, isFlipFlop, isGate, flipFlops, flipFlopLine, I, F, Fault}
 use Rattle.model.specs.Values.{X, gate}
 use Rattle.model.specs.Simulation.{isStuck, seen, pinSeen, pinsSeen, behind, valuesBelow, lineValues, nextState}
-use Rattle.model.proofs.Allows.{Allows, AllowsRow}
 use Rattle.model.proofs.Total.{Total, TotalRow, nil-total, cons-total, append-total, tabulate-total, getD-total, gate-total}
 use Rattle.model.proofs.Implication.{Settled, unstuck, length-pinsSeen, gate-kind}
 

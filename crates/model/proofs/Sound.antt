@@ -1,23 +1,23 @@
 -- A run that never differs: its state is allowed by the plain states, by the state list, and by the list of one of the sequences. So it
 -- stands against every verdict from 1 to 4, stage by stage.
-use mathlib.Core.Path.{_≡_, refl, sym, ap, _∙_}
+use mathlib.Core.Path.{_≡_, refl, sym, _∙_}
 use Prim.Native.Nat.{ℕ, zero, suc, _+_, _-_, _*_, _/_, _%_, _^_, _≤_, _<_}
-use mathlib.Core.Bool.{Bool, true, false, cond, not, _&&_, _||_, false≢true}
+use mathlib.Core.Bool.{Bool, true, false, cond, _&&_, false≢true}
 use mathlib.Core.List.{List, [], _∷_, _++_}
-use lib.ListN.{getD, length, take, drop, set, length-take, length-drop}
-use lib.Dec.{eqb, leb, ltb}
+use lib.ListN.{getD, length, length-take, length-drop}
+use lib.Dec.{eqb, ltb}
 use native.Mathlib.Omega.{arith}
 use native.Mathlib.Decide.{decLe}
 use native.Mathlib.Nat.{le-div-iff-mul-le}
 use borrow.Author.Tests.{eqb-true, eq-eqb, ltb-true, ltb-false, lt-ltb}
-use Rattle.lists.specs.Scan.{anyBelow, countBelow}
+use Rattle.lists.specs.Scan.{anyBelow}
 use Rattle.lists.proofs.Tests.{and-left, and-right, and-fails, or-cases, cond-cases, clash, is-false, is-true}
 use Rattle.lists.proofs.Scan.{anyBelow-false, anyBelow-none, countBelow-positive}
 use Rattle.model.specs.Inputs.{N, pinLine, isOutput, flipFlopLine, outputLines, I, F, L, inputsAt, Fault, planCount, planPair}
-use Rattle.model.specs.Values.{X, giveRow, hasConflict, opposes, someOppose}
-use Rattle.model.specs.Simulation.{noFault, shown, lineValues, outputs, nextState, powerUp, stateAt, valuesAt, outputsAt, plainState, plainValues, plainOutputs, freeValues, freeOutputs}
+use Rattle.model.specs.Values.{X, giveRow, hasConflict, someOppose}
+use Rattle.model.specs.Simulation.{lineValues, outputs, nextState, powerUp, stateAt, valuesAt, outputsAt, plainState, plainValues, plainOutputs, freeValues, freeOutputs}
 use Rattle.model.specs.Starts.{bits, startingState, differs}
-use Rattle.model.specs.Expansion.{countOpen, nothing, whereX, nsv, openPlaces, nout, impliedAt, marked, extra, tried, bothMarked, alone, written, rowAfter, opposedWrite, stateRow}
+use Rattle.model.specs.Expansion.{countOpen, nothing, nsv, openPlaces, nout, impliedAt, marked, extra, tried, bothMarked, alone, written, rowAfter, opposedWrite, stateRow}
 use Rattle.model.specs.Sequences.{takes, takeNext, takenOf, taken, sequenceRow, ending, endOf, countEnding, survives}
 use Rattle.model.specs.Grade.{opposedAt}
 use Rattle.model.proofs.Allows.{Allows, AllowsRow, outputs-allows, nextState-allows, lineValues-allows, stateAt-allows, valuesAt-allows, outputsAt-allows}

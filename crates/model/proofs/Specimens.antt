@@ -1,7 +1,6 @@
 -- The specimens, computed. `computes` stands for every definition that a job's result is computed from: to unfold it is to unfold them all.
 use mathlib.Core.Path.{_≡_, refl}
-use mathlib.Core.List.{List, [], _∷_, map}
-use Prim.Native.Nat.{ℕ, zero, suc}
+use mathlib.Core.List.{map}
 use Rattle.lists.specs.Scan.{_else_, orGiven, first, pairWith, firstPair, firstAnswer, anyBelow, countBelow, select, tabulate, gather}
 use Rattle.lists.specs.Field.{word16, bytes16, overwritten}
 use Rattle.model.specs.Inputs.{N, kind, pinCount, outputMark, spareByte, pinLine, isInput, isFlipFlop, isGate, isOutput, flipFlops, outputLines, flipFlopLine, I, F, O, L, inputsAt, faultCount, faultAt, planCount, planPair}

@@ -1,14 +1,14 @@
 -- The theorems, for every input. What each says is defined in specs/Promises.
-use mathlib.Core.Path.{_≡_, sym, subst, ap, _∙_}
-use Prim.Native.Nat.{ℕ, _≤_, _<_}
+use mathlib.Core.Path.{_≡_, sym, ap, _∙_}
+use Prim.Native.Nat.{ℕ, _<_}
 use mathlib.Core.List.{List}
 use mathlib.Core.Option.{none}
 use lib.ListN.{length}
 use native.Mathlib.Omega.{arith}
 use Rattle.model.specs.Inputs.{Fault, faultCount, faultAt}
 use Rattle.model.specs.Refusals.{gradeRefusal, chooseRefusal}
-use Rattle.model.specs.Grade.{Verdict, grade, recordBytes, recordAt, gradeArea}
-use Rattle.model.specs.Promises.{Promise, Demand3, InBounds, recordPart, WellChosen}
+use Rattle.model.specs.Grade.{grade, recordBytes, recordAt, gradeArea}
+use Rattle.model.specs.Promises.{Demand3, InBounds, recordPart, WellChosen}
 use Rattle.model.proofs.Accepted.{GradeJob, gradeJob, accepted, ChooseJob, chooseJob}
 use Rattle.model.proofs.Promise.{promise}
 use Rattle.model.proofs.Bounds.{bounds}

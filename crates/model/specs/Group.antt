@@ -1,8 +1,8 @@
 -- Group writes 16 bits per verdict record: the first position with equal verdict, time and line.
-use Prim.Native.Nat.{ℕ, _+_, _*_, _/_}
+use Prim.Native.Nat.{ℕ, _/_}
 use mathlib.Core.Bool.{Bool, _&&_}
 use mathlib.Core.List.{List}
-use lib.ListN.{getD, length}
+use lib.ListN.{length}
 use lib.Dec.{eqb}
 use Rattle.lists.specs.Scan.{orGiven, first, gather}
 use Rattle.lists.specs.Field.{bytes16, overwritten}

@@ -1,7 +1,7 @@
 -- Implication in one unit: a line is given a value, and two passes add what follows. Down, a gate whose value is known tells what its pins
 -- must be; up, each gate is evaluated. A stuck line says nothing of its gate, and a stuck pin nothing of the line behind it.
 use Prim.Native.Nat.{ℕ, zero, suc, _/_}
-use mathlib.Core.Bool.{Bool, cond, not, _&&_}
+use mathlib.Core.Bool.{cond, not, _&&_}
 use mathlib.Core.List.{List, [], _∷_}
 use lib.ListN.{getD, set}
 use lib.Dec.{eqb}

@@ -5,14 +5,14 @@ use Prim.Native.Nat.{ℕ, _+_, _*_, _^_, _≤_, _<_}
 use mathlib.Core.Bool.{Bool, true, false, _||_}
 use mathlib.Core.List.{List}
 use mathlib.Core.Option.{none}
-use lib.ListN.{length, take, drop}
+use lib.ListN.{getD, length, take, drop}
 use lib.Dec.{eqb}
 use Rattle.model.specs.Inputs.{Fault, faultCount, faultAt}
-use Rattle.model.specs.Refusals.{gradeRefusal, chooseRefusal}
+use Rattle.model.specs.Refusals.{gradeRefusal}
 use Rattle.model.specs.Starts.{freeBits, startCount, differs}
 use Rattle.model.specs.Sequences.{takes, taken}
-use Rattle.model.specs.Grade.{Verdict, grade, recordAt, gradeArea, beforeStage5}
-use Rattle.model.specs.Choose.{chosen, planBytes}
+use Rattle.model.specs.Grade.{Verdict, recordAt, beforeStage5}
+use Rattle.model.specs.Choose.{better, chosen, planBytes}
 
 -- every starting state of the circuit with the fault differs
 abbrev pub EveryDiffers : List ℕ → List ℕ → Fault → Type 0
@@ -67,8 +67,10 @@ pub record InBounds (k : ℕ) (v : Verdict) : Type 0 where
 abbrev pub recordPart : List ℕ → ℕ → List ℕ
 recordPart area j = take 16 (drop (16 * j) area)
 
--- Of the pairs that Choose writes: every one is taken by Grade with the same k and just these pairs as the plan, and Choose stops early
--- only when no pair could be taken; each is one that stage 5 would take next, and none that it would take is better.
+-- Of the pairs that Choose writes. Every one is taken by Grade with the same k and just these pairs as the plan. None that could be taken in
+-- its place is better. Choose stops early only when no pair could be taken.
 pub record WellChosen (c t : List ℕ) (f : Fault) (k : ℕ) : Type 0 where
   pub taken : taken c t f (planBytes (chosen c t f k)) k ≡ chosen c t f k
+  pub best : (n : ℕ) → n < length (chosen c t f k) → (u i : ℕ) → takes c t f (take n (chosen c t f k)) u i ≡ true
+      → better c t f u i (getD (chosen c t f k) n (0, 0) .0) (getD (chosen c t f k) n (0, 0) .1) ≡ false
   pub stops : beforeStage5 c t f ≡ none → length (chosen c t f k) < k → (u i : ℕ) → takes c t f (chosen c t f k) u i ≡ false

@@ -1,7 +1,6 @@
 -- The specimens of document 01 as jobs, and the eleven verdicts that it gives for them.
-use mathlib.Core.Path.{_≡_}
-use Prim.Native.Nat.{ℕ, _+_, _*_, _-_}
-use mathlib.Core.List.{List, [], _∷_, _++_, map}
+use Prim.Native.Nat.{ℕ, _*_, _-_}
+use mathlib.Core.List.{List, [], _∷_, _++_}
 use lib.ListN.{length, replicate}
 use Rattle.lists.specs.Field.{bytes16}
 use Rattle.model.specs.Inputs.{Fault}
