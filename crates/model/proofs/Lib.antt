@@ -1,4 +1,5 @@
 -- Why the theorems hold.
+pub mod Computed
 pub mod Specimens
 pub mod Allows
 pub mod Total
