@@ -1,6 +1,7 @@
 -- Why the theorems hold.
 pub mod Computed
 pub mod Specimens
+pub mod Vectors
 pub mod Allows
 pub mod Total
 pub mod Implication

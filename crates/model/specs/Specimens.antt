@@ -7,26 +7,32 @@ use Rattle.model.specs.Inputs.{Fault}
 use Rattle.model.specs.Grade.{Verdict, grade}
 use Rattle.model.specs.Choose.{planBytes}
 
+-- A circuit is written as a list of (kind, output mark, pins).
+
 -- line numbers as 16-bit fields
-unfoldable pub fields16 : List ℕ → List ℕ
+abbrev pub fields16 : List ℕ → List ℕ
 fields16 [] = []
 fields16 (n ∷ ns) = bytes16 n ++ fields16 ns
 
 -- a circuit record: kind, output mark, pins
-unfoldable pub lineOf : ℕ → ℕ → List ℕ → List ℕ
+abbrev pub lineOf : ℕ → ℕ → List ℕ → List ℕ
 lineOf kind output pins = kind ∷ length pins ∷ output ∷ 0 ∷ fields16 pins ++ replicate (8 - 2 * length pins) 0
+
+abbrev pub circuitOf : List (ℕ × ℕ × List ℕ) → List ℕ
+circuitOf [] = []
+circuitOf (line ∷ lines) = lineOf (line .0) (line .1) (line .2) ++ circuitOf lines
 
 -- A: input 0; flip-flop 1 of 3, output; 2 = NOT 1; 3 = AND 0, 2.
 unfoldable pub specimenA : List ℕ
-specimenA = lineOf 0 0 [] ++ lineOf 1 1 (3 ∷ []) ++ lineOf 3 0 (1 ∷ []) ++ lineOf 4 0 (0 ∷ 2 ∷ [])
+specimenA = circuitOf ((0, 0, []) ∷ (1, 1, 3 ∷ []) ∷ (3, 0, 1 ∷ []) ∷ (4, 0, 0 ∷ 2 ∷ []) ∷ [])
 
 -- B: input 0; flip-flop 1 of 2, output; 2 = AND 0, 1.
 unfoldable pub specimenB : List ℕ
-specimenB = lineOf 0 0 [] ++ lineOf 1 1 (2 ∷ []) ++ lineOf 4 0 (0 ∷ 1 ∷ [])
+specimenB = circuitOf ((0, 0, []) ∷ (1, 1, 2 ∷ []) ∷ (4, 0, 0 ∷ 1 ∷ []) ∷ [])
 
 -- D: input 0; flip-flop 1 of 1; 2 = NOT 1; outputs 3 = OR 0, 1 and 4 = OR 0, 2.
 unfoldable pub specimenD : List ℕ
-specimenD = lineOf 0 0 [] ++ lineOf 1 0 (1 ∷ []) ++ lineOf 3 0 (1 ∷ []) ++ lineOf 6 1 (0 ∷ 1 ∷ []) ++ lineOf 6 1 (0 ∷ 2 ∷ [])
+specimenD = circuitOf ((0, 0, []) ∷ (1, 0, 1 ∷ []) ∷ (3, 0, 1 ∷ []) ∷ (6, 1, 0 ∷ 1 ∷ []) ∷ (6, 1, 0 ∷ 2 ∷ []) ∷ [])
 
 unfoldable pub stuckAt : ℕ → ℕ → ℕ → Fault
 stuckAt line pin value = record { line = line; pin = pin; value = value }
