@@ -46,7 +46,7 @@ fits c n e =
 pins-cases : (x y : Bool) (p : ℕ) → x ≡ false → cond x (eqb p 0) (cond y (eqb p 1) (leb 2 p && leb p 4)) ≡ true → 0 < p
 pins-cases true y p h e = absurd (true≢false h)
 pins-cases false true p h e = omega (arith, eqb-true p 1 e)
-pins-cases false false p h e = omega (arith, leb-true 2 p (and-left (leb 2 p) _ e))
+pins-cases false false p h e = omega (arith, leb-true 2 p (and-left _ _ e))
 
 has-pin : (k p : ℕ) → pinsFit k p ≡ true → 1 ≤ k → 0 < p
 unfolding pinsFit
@@ -98,11 +98,11 @@ goodCircuit c e =
     let size : eqb (length c) 0 || not (eqb (length c % 12) 0) || ltb 49152 (length c) ≡ false = refuse-none _ 1 0 (a .0) in
     let short : length c ≤ 49152 = ltb-false 49152 (length c) (or-right-false (eqb (length c) 0 || not (eqb (length c % 12) 0)) _ size) in
     let ends : eqb (I c) 0 || eqb (O c) 0 || ltb 256 (I c) || ltb 256 (F c) || ltb 256 (O c) ≡ false = refuse-none _ 6 0 (b .1) in
-    let most : eqb (I c) 0 || eqb (O c) 0 || ltb 256 (I c) || ltb 256 (F c) ≡ false = or-left-false _ (ltb 256 (O c)) ends in
+    let most : eqb (I c) 0 || eqb (O c) 0 || ltb 256 (I c) || ltb 256 (F c) ≡ false = or-left-false _ _ ends in
     record {
       records = valid c (b .0);
       lines = omega arith;
-      inputs = positive _ (or-left-false _ (eqb (O c) 0) (or-left-false _ (ltb 256 (I c)) (or-left-false _ (ltb 256 (F c)) most)));
+      inputs = positive _ (or-left-false _ _ (or-left-false _ _ (or-left-false _ _ most)));
       flipFlops = ltb-false 256 (F c) (or-right-false (eqb (I c) 0 || eqb (O c) 0 || ltb 256 (I c)) _ most);
     }
 
@@ -131,7 +131,7 @@ pub goodTest : (c t : List ℕ) → row7 c t ≡ none → row8 t ≡ none → Go
 unfolding row7 row8 L
 goodTest c t e g =
     let size : eqb (length t) 0 || not (eqb (length t % I c) 0) || ltb 1024 (L c t) ≡ false = refuse-none _ 7 0 e in
-    let whole : eqb (length t) 0 || not (eqb (length t % I c) 0) ≡ false = or-left-false _ (ltb 1024 (L c t)) size in
+    let whole : eqb (length t) 0 || not (eqb (length t % I c) 0) ≡ false = or-left-false _ _ size in
     record {
       bytes = total-test t (λ b q. ltb-false 1 (getD t b 0) (refuse-none _ 8 b (firstAnswer-none (λ b. refuse (ltb 1 (getD t b 0)) 8 b) (length t) b g q)));
       some = units-positive (length t) (I c) (positive _ (or-left-false _ _ whole)) (eqb-true _ _ (not-false _ (or-right-false (eqb (length t) 0) _ whole)));

@@ -77,18 +77,18 @@ module _ (c t : List ℕ) (f : Fault) where
   bestOf-keeps : (pairs : List (ℕ × ℕ)) (o : Option (ℕ × ℕ)) (u i v j : ℕ) → Beaten pairs o v j → Beaten pairs (bestOf c t f pairs o u i) v j
   unfolding bestOf Beaten
   bestOf-keeps pairs none u i v j h =
-      cond-cases (λ (o : Option (ℕ × ℕ)). Beaten pairs o v j) (takes c t f pairs u i) (some (u, i)) none (λ _ g. clash _ g h) (λ _. h)
+      cond-cases (λ (o : Option (ℕ × ℕ)). Beaten pairs o v j) (takes c t f pairs u i) _ none (λ _ g. clash _ g h) (λ _. h)
   bestOf-keeps pairs (some q) u i v j h =
-      cond-cases (λ (o : Option (ℕ × ℕ)). Beaten pairs o v j) (takes c t f pairs u i && better c t f u i (q .0) (q .1)) (some (u, i)) (some q)
+      cond-cases (λ (o : Option (ℕ × ℕ)). Beaten pairs o v j) _ (some (u, i)) _
       (λ e g. is-false _ (λ b. clash _ (better-trans v j u i (q .0) (q .1) b (and-right (takes c t f pairs u i) _ e)) (h g)))
       (λ _. h)
 
   bestOf-beats : (pairs : List (ℕ × ℕ)) (o : Option (ℕ × ℕ)) (u i : ℕ) → Beaten pairs (bestOf c t f pairs o u i) u i
   unfolding bestOf Beaten
   bestOf-beats pairs none u i =
-      cond-cases (λ (o : Option (ℕ × ℕ)). Beaten pairs o u i) (takes c t f pairs u i) (some (u, i)) none (λ _ _. better-self u i) (λ e. e)
+      cond-cases (λ (o : Option (ℕ × ℕ)). Beaten pairs o u i) _ _ none (λ _ _. better-self u i) (λ e. e)
   bestOf-beats pairs (some q) u i =
-      cond-cases (λ (o : Option (ℕ × ℕ)). Beaten pairs o u i) (takes c t f pairs u i && better c t f u i (q .0) (q .1)) (some (u, i)) (some q)
+      cond-cases (λ (o : Option (ℕ × ℕ)). Beaten pairs o u i) _ _ (some q)
       (λ _ _. better-self u i) (λ e g. and-fails (takes c t f pairs u i) _ e g)
 
   bestAt-keeps : (pairs : List (ℕ × ℕ)) (u i : ℕ) (o : Option (ℕ × ℕ)) (v j : ℕ) → Beaten pairs o v j → Beaten pairs (bestAt c t f pairs u i o) v j
@@ -134,10 +134,10 @@ module _ (c t : List ℕ) (f : Fault) where
 
   bestOf-taking : (pairs : List (ℕ × ℕ)) (o : Option (ℕ × ℕ)) (u i : ℕ) → Taking pairs o → Taking pairs (bestOf c t f pairs o u i)
   unfolding bestOf Taking
-  bestOf-taking pairs none u i h = cond-cases (Taking pairs) (takes c t f pairs u i) (some (u, i)) none (λ e. e) (λ _. tt)
+  bestOf-taking pairs none u i h = cond-cases (Taking pairs) _ (some (u, i)) none (λ e. e) (λ _. tt)
   bestOf-taking pairs (some q) u i h =
-      cond-cases (Taking pairs) (takes c t f pairs u i && better c t f u i (q .0) (q .1)) (some (u, i)) (some q)
-      (λ e. and-left (takes c t f pairs u i) _ e) (λ _. h)
+      cond-cases (Taking pairs) (takes c t f pairs u i && better c t f u i (q .0) (q .1)) _ _
+      (λ e. and-left _ _ e) (λ _. h)
 
   bestAt-taking : (pairs : List (ℕ × ℕ)) (u i : ℕ) (o : Option (ℕ × ℕ)) → Taking pairs o → Taking pairs (bestAt c t f pairs u i o)
   unfolding bestAt

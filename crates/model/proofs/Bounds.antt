@@ -61,7 +61,7 @@ module _ (c t : List ℕ) (f : Fault) where
       let q = planPair p n in
       cond-cases (λ (qs : List (ℕ × ℕ)). length qs ≤ k) (ltb (length pairs) k && takes c t f pairs (q .0) (q .1)) _ pairs
       (λ e.
-      let room : length pairs < k = ltb-true (length pairs) k (and-left (ltb (length pairs) k) _ e) in
+      let room : length pairs < k = ltb-true (length pairs) k (and-left _ _ e) in
       rw length-append (omega arith))
       (λ _. takenOf-bound p k n)
 

@@ -76,17 +76,17 @@ module _ (c : List ℕ) (f : Fault) (stuck : Allows (f .value) (f .value)) (w : 
   givePins-allows n v ps i zero vs h g = h
   givePins-allows n v ps i (suc left) vs h g =
       givePins-allows n v ps (suc i) left _
-      (cond-cases (λ (z : List ℕ). AllowsRow z w) (isStuck f n (suc i)) vs (giveLine vs (pinLine c n (suc i)) (implies (kind c n) v ps i))
+      (cond-cases (λ (z : List ℕ). AllowsRow z w) _ vs _
       (λ _. h) (λ e. giveLine-allows vs w (pinLine c n (suc i)) _ h (g i (omega arith) e)))
       (λ j q. g j (omega arith))
 
   downLine-allows : (vs : List ℕ) (n : ℕ) → n < N c → AllowsRow vs w → AllowsRow (downLine c f vs n) w
   unfolding downLine
   downLine-allows vs n b h =
-      cond-cases (λ (z : List ℕ). AllowsRow z w) (isGate c n && not (isStuck f n 0) && isSpecified (getD vs n X)) _ vs
+      cond-cases (λ (z : List ℕ). AllowsRow z w) _ _ vs
       (λ e.
-      let both : isGate c n && not (isStuck f n 0) ≡ true = and-left (isGate c n && not (isStuck f n 0)) _ e in
-      let g : isGate c n ≡ true = and-left (isGate c n) _ both in
+      let both : isGate c n && not (isStuck f n 0) ≡ true = and-left _ _ e in
+      let g : isGate c n ≡ true = and-left _ _ both in
       let free : isStuck f n 0 ≡ false = not-true _ (and-right (isGate c n) _ both) in
       let v : getD w n X ≡ getD vs n X = specified-allows _ _ (getD-allows vs w n h) (and-right (isGate c n && not (isStuck f n 0)) _ e) in
       givePins-allows n (getD vs n X) (pinsSeen c f vs n) 0 (pinCount c n) vs h
@@ -106,9 +106,9 @@ module _ (c : List ℕ) (f : Fault) (stuck : Allows (f .value) (f .value)) (w : 
   upLine-allows : (vs : List ℕ) (n : ℕ) → n < N c → AllowsRow vs w → AllowsRow (upLine c f vs n) w
   unfolding upLine
   upLine-allows vs n b h =
-      cond-cases (λ (z : List ℕ). AllowsRow z w) (isGate c n && not (isStuck f n 0)) _ vs
+      cond-cases (λ (z : List ℕ). AllowsRow z w) _ _ vs
       (λ e.
-      let g : isGate c n ≡ true = and-left (isGate c n) _ e in
+      let g : isGate c n ≡ true = and-left _ _ e in
       let free : isStuck f n 0 ≡ false = not-true _ (and-right (isGate c n) _ e) in
       giveLine-allows vs w n _ h (rw (settled .shows n b g free) (gate-allows (kind c n) _ _ (pinsSeen-allows c f stuck vs w n h))))
       (λ _. h)
@@ -153,6 +153,6 @@ someOppose-allows [] xs ys h e = absurd (false≢true e)
 someOppose-allows (o ∷ os) [] ys h e = absurd (false≢true e)
 someOppose-allows (o ∷ os) (x ∷ xs) [] h e = absurd h
 someOppose-allows (o ∷ os) (x ∷ xs) (y ∷ ys) h e =
-    or-cases (opposes o x) (someOppose os xs) e
+    or-cases _ (someOppose os xs) e
     (λ p. rw (opposes-allows o x y (h .0) p))
     (λ p. rw (someOppose-allows os xs ys (h .1) p) (or-true (opposes o y)))

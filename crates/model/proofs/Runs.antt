@@ -92,7 +92,7 @@ map-total g P (n ∷ ns) h e = (e n (h .0), map-total g P ns (h .1) e)
 module _ (c : List ℕ) (valid : Valid c) (f : Fault) (stuck : Total (f .value)) where
   seen-total : (n pin v : ℕ) → Total v → Total (seen f n pin v)
   unfolding seen
-  seen-total n pin v h = cond-cases Total (isStuck f n pin) (f .value) v (λ _. stuck) (λ _. h)
+  seen-total n pin v h = cond-cases Total (isStuck f n pin) _ v (λ _. stuck) (λ _. h)
 
   pinSeen-total : (vs : List ℕ) (n pin : ℕ) → TotalRow vs → pinLine c n pin < length vs → Total (pinSeen c f vs n pin)
   unfolding pinSeen
@@ -111,9 +111,9 @@ module _ (c : List ℕ) (valid : Valid c) (f : Fault) (stuck : Total (f .value))
     behind-total : (vs : List ℕ) (n : ℕ) → n < N c → TotalRow vs → length vs ≡ n → Total (behind c f inputs state vs n)
     unfolding behind I F
     behind-total vs n b h l =
-        cond-cases Total (isInput c n) _ _
+        cond-cases Total _ _ _
         (λ e. getD-total inputs _ given (omega (arith, countBelow-less (λ m. isInput c m) n (N c) b e)))
-        (λ a. cond-cases Total (isFlipFlop c n) _ _
+        (λ a. cond-cases Total _ _ _
         (λ e. getD-total state _ bits (omega (arith, countBelow-less (λ m. isFlipFlop c m) n (N c) b e)))
         (λ d.
         let g : isGate c n ≡ true = gate-left c n a d in

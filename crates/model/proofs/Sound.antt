@@ -53,7 +53,7 @@ module _ (c t : List ℕ) (f : Fault) where
   unfolding takes
   takes-named pairs u i e =
       let d : ltb u (L c t) && ltb i (F c) ≡ true = and-left _ _ (and-left _ _ (and-left _ _ (and-left _ _ e))) in
-      (ltb-true u (L c t) (and-left (ltb u (L c t)) (ltb i (F c)) d), ltb-true i (F c) (and-right (ltb u (L c t)) (ltb i (F c)) d))
+      (ltb-true u (L c t) (and-left _ (ltb i (F c)) d), ltb-true i (F c) (and-right (ltb u (L c t)) (ltb i (F c)) d))
 
   takenOf-named : (p : List ℕ) (k n : ℕ) → Named c t (takenOf c t f p k n)
   unfolding takenOf takeNext
@@ -61,7 +61,7 @@ module _ (c t : List ℕ) (f : Fault) where
   takenOf-named p k (suc n) =
       let pairs = takenOf c t f p k n in
       let q = planPair p n in
-      cond-cases (Named c t) (ltb (length pairs) k && takes c t f pairs (q .0) (q .1)) _ pairs
+      cond-cases (Named c t) _ _ pairs
       (λ e.
       let r : (q .0 < L c t) × (q .1 < F c) = takes-named pairs (q .0) (q .1) (and-right (ltb (length pairs) k) _ e) in
       snoc-named c t pairs (q .0) (q .1) (takenOf-named p k n) (r .0) (r .1))
@@ -178,7 +178,7 @@ module _ (c t : List ℕ) (f : Fault) (a : Accepted c t f) where
       unmarked zero i α h k e = false≢true e
       unmarked (suc u) i α h k e =
           let r : AllowsRow (impliedAt c t f u i α) (valuesAt c t f st u) = impliedAt-allows u i α (omega arith) k in
-          or-cases (hasConflict (impliedAt c t f u i α)) _ e
+          or-cases _ _ e
           (λ p. clash _ p (no-conflict _ _ r))
           (λ p. clash _ p (no-opposing u _ (omega arith) r))
 
@@ -191,21 +191,21 @@ module _ (c t : List ℕ) (f : Fault) (a : Accepted c t f) where
       unfolding bothMarked
       not-both u i h k e =
           total-cases (bitOf u i) (bit-of-total u i h k)
-          (not-marked u i 0 h k (and-right (tried c t f u i) _ (and-left (tried c t f u i && marked c t f u i 0) _ e)))
+          (not-marked u i 0 h k (and-right (tried c t f u i) _ (and-left _ _ e)))
           (not-marked u i 1 h k (and-right (tried c t f u i && marked c t f u i 0) _ e))
 
       alone-marked : (u i α : ℕ) → alone c t f u i α ≡ true → marked c t f u i α ≡ true
       unfolding alone
-      alone-marked u i α e = and-right (tried c t f u i) _ (and-left (tried c t f u i && marked c t f u i α) _ e)
+      alone-marked u i α e = and-right (tried c t f u i) _ (and-left _ _ e)
 
       -- stage 4
       written-allows : (u i : ℕ) → u < L c t → i < F c → AllowsRow (written c t f u i) (stateAt c t f st u)
       unfolding written
       written-allows u i h k =
-          cond-cases (λ (row : List ℕ). AllowsRow row (stateAt c t f st u)) (alone c t f u i 0) _ _
+          cond-cases (λ (row : List ℕ). AllowsRow row (stateAt c t f st u)) _ _ _
           (λ e. extra-allows u i 1 h (total-cases (bitOf u i) (bit-of-total u i h k)
           (λ p. absurd (not-marked u i 0 h k (alone-marked u i 0 e) p)) (λ p. allows-equal 1 _ (bit-of-total u i h k) p)))
-          (λ _. cond-cases (λ (row : List ℕ). AllowsRow row (stateAt c t f st u)) (alone c t f u i 1) _ _
+          (λ _. cond-cases (λ (row : List ℕ). AllowsRow row (stateAt c t f st u)) _ _ _
           (λ e. extra-allows u i 0 h (total-cases (bitOf u i) (bit-of-total u i h k)
           (λ p. allows-equal 0 _ (bit-of-total u i h k) p) (λ p. absurd (not-marked u i 1 h k (alone-marked u i 1 e) p))))
           (λ _. nothing-allows u (omega arith)))
@@ -248,7 +248,7 @@ module _ (c t : List ℕ) (f : Fault) (a : Accepted c t f) where
           let bit : (bitOf (q .0) (q .1) + 2 * runNumber pairs) % 2 ≡ bitOf (q .0) (q .1) = omega arith in
           let ih : AllowsRow (sequenceRow c t f pairs (runNumber pairs) u) (stateAt c t f st u) = sequenceRow-allows pairs u (n .2) h in
           rw (rest, bit)
-          (cond-cases (λ (row : List ℕ). AllowsRow row (stateAt c t f st u)) (eqb (q .0) u) _ _
+          (cond-cases (λ (row : List ℕ). AllowsRow row (stateAt c t f st u)) _ _ _
           (λ e.
           let at : q .0 ≡ u = eqb-true _ _ e in
           giveRow-allows _ _ _ ih (rw (← at) (extra-allows (q .0) (q .1) _ (n .0) (total-allows _ b))))
@@ -261,7 +261,7 @@ module _ (c t : List ℕ) (f : Fault) (a : Accepted c t f) where
       ending-survives pairs n (suc left) u now e h =
           let v : AllowsRow (lineValues c f (inputsAt c t u) now) (valuesAt c t f st u) = values-step u now h in
           let row : AllowsRow (cond (ltb (suc u) (L c t)) (sequenceRow c t f pairs (runNumber pairs) (suc u)) (nothing c)) (stateAt c t f st (suc u)) =
-          cond-cases (λ (row : List ℕ). AllowsRow row (stateAt c t f st (suc u))) (ltb (suc u) (L c t)) _ _
+          cond-cases (λ (row : List ℕ). AllowsRow row (stateAt c t f st (suc u))) _ _ _
           (λ g. sequenceRow-allows pairs (suc u) n (ltb-true _ _ g)) (λ _. nothing-allows (suc u) (omega arith)) in
           let m : AllowsRow (giveRow (nextState c f (lineValues c f (inputsAt c t u) now)) _) (stateAt c t f st (suc u)) =
           giveRow-allows _ _ _ (next-step u _ v) row in

@@ -51,7 +51,7 @@ module _ (Q : Verdict → Type 0) where
     unfolding stage2
     stage2-case n v e =
         cond-cases (λ (o : Option Verdict). o ≡ some v → Q v)
-        (anyBelow (λ u. ltb 0 (nsv c t f u) && ltb 0 (nout c t f u)) (L c t)) none (some (placed 5 0 0))
+        _ none _
         (λ _ z. absurd (Option·none-ne-some v z)) (λ g z. from-some _ v z (two (stage1-none n) g)) e
 
     stage3-case : (v : Verdict) → stage3 c t f ≡ some v → Q v
@@ -72,7 +72,7 @@ module _ (Q : Verdict → Type 0) where
     stage5-case : (v : Verdict) → stage5 c t f p k ≡ some v → Q v
     unfolding stage5
     stage5-case v e =
-        cond-cases (λ (o : Option Verdict). o ≡ some v → Q v) (eqb (countEnding c t f (taken c t f p k) survives) 0) _ none
+        cond-cases (λ (o : Option Verdict). o ≡ some v → Q v) _ _ none
         (λ g z. from-some _ v z (five g)) (λ _ z. absurd (Option·none-ne-some v z)) e
 
     start-case : leb (freeBits c) k ≡ true → (o : Option ℕ) → first (λ s. not (differs c t f s)) (startCount c) ≡ o → Q (fromStart c t f p k o)
@@ -82,7 +82,7 @@ module _ (Q : Verdict → Type 0) where
 
     stage6-case : Q (stage6 c t f p k)
     unfolding stage6
-    stage6-case = cond-cases Q (leb (freeBits c) k) _ _ (λ e. start-case e _ refl) neither
+    stage6-case = cond-cases Q _ _ _ (λ e. start-case e _ refl) neither
 
     pub grade-cases : Q (grade c t f p k)
     unfolding grade

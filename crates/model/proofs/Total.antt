@@ -273,7 +273,7 @@ module _ (ps pw : List ℕ) (known : AllowsRow ps pw) (total : TotalRow pw) (i :
   andImplies-allows : (v : ℕ) → andOf pw ≡ v → Allows (andImplies v ps i) (getD pw i X)
   unfolding andImplies
   andImplies-allows zero e =
-      cond-cases (λ (z : ℕ). Allows z (getD pw i X)) (not (isSpecified (getD ps i X)) && eqb (andOf (others ps i)) 1) 0 X
+      cond-cases (λ (z : ℕ). Allows z (getD pw i X)) _ 0 X
       (λ q.
       let rest : andOf (others ps i) ≡ 1 = eqb-true _ _ (and-right (not (isSpecified (getD ps i X))) _ q) in
       let ones : andOf (others pw i) ≡ 1 = allows-one _ (rw rest at (andOf-allows _ _ (others-allows ps pw i known))) in
@@ -287,7 +287,7 @@ module _ (ps pw : List ℕ) (known : AllowsRow ps pw) (total : TotalRow pw) (i :
   xorImplies-allows v e =
       let value : Allows v v = rw e at (total-allows _ (xorOf-total pw total)) in
       let back : xorPair v (xorOf (others pw i)) ≡ getD pw i X = rw e at (xor-last-pin pw i total p) in
-      cond-cases (λ (z : ℕ). Allows z (getD pw i X)) (not (isSpecified (getD ps i X))) (xorPair v (xorOf (others ps i))) X
+      cond-cases (λ (z : ℕ). Allows z (getD pw i X)) (not (isSpecified (getD ps i X))) _ X
       (λ _. rw back at (xorPair-allows v v _ _ value (xorOf-allows _ _ (others-allows ps pw i known))))
       (λ _. X-allows _)
 
