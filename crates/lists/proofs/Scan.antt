@@ -9,8 +9,9 @@ use lib.Seq.{take-all, drop-at, drop-append-le, take-append-le}
 use native.Mathlib.Omega.{arith}
 use native.Mathlib.Decide.{decLe}
 use native.Mathlib.Nat.{mul-le-mul-left, mul-suc}
+use native.Mathlib.Numerals.{add-one}
 use Rattle.lists.specs.Scan.{_else_, orGiven, first, pairWith, firstPair, firstAnswer, anyBelow, countBelow, select, tabulate, gather}
-use Rattle.lists.proofs.Tests.{or-left-false, or-right-false, cond-cases}
+use Rattle.lists.proofs.Tests.{or-left-false, or-right-false, cond-cases, clash, is-true}
 
 -- ---- the first answer
 pub else-some {ℓ} : {A : Type 0} {B : Type ℓ} (a b : Option A) (m : A) → a else b ≡ some m → (a ≡ some m → B) → (a ≡ none → b ≡ some m → B) → B
@@ -237,3 +238,37 @@ module _ {A : Type 0} (g : ℕ → List A) (size : ℕ) (each : (j : ℕ) → le
         let q : j ≡ n = omega arith in
         rw (q, drop-at (gather g n) (g n) (size * n) (length-gather n)) (take-all size (g n) (omega (arith, each n))))
   ]
+
+-- ---- a loop's turn: the scan of the numbers below n + 1, from the scan of those below n
+module _ {A : Type 0} (g : ℕ → Option A) where
+  pub firstAnswer-turn : (n : ℕ) → firstAnswer g n ≡ none → g n ≡ none → firstAnswer g (n + 1) ≡ none
+  unfolding firstAnswer
+  firstAnswer-turn n e h = rw add-one (else-is-none (firstAnswer g n) (g n) e h)
+
+  -- the loop is left at the first answer
+  pub firstAnswer-stop : (n m : ℕ) (a : A) → firstAnswer g n ≡ none → g n ≡ some a → n < m → firstAnswer g m ≡ some a
+  unfolding firstAnswer _else_
+  firstAnswer-stop n zero a e h l = absurd (let z : ⊥ = omega arith in z)
+  firstAnswer-stop n (suc m) a e h l = elim (decLe (suc n) m) [
+      yes q ↦ rw (firstAnswer-stop n m a e h q)
+    | no q ↦ (let r : n ≡ m = omega arith in rw (rw r at e, rw r at h)) ]
+
+module _ (P : ℕ → Bool) where
+  pub anyBelow-turn : (n : ℕ) → anyBelow P n ≡ false → P n ≡ false → anyBelow P (n + 1) ≡ false
+  unfolding anyBelow
+  anyBelow-turn n e h = rw (add-one, e) h
+
+  pub anyBelow-stop : (n m : ℕ) → P n ≡ true → n < m → anyBelow P m ≡ true
+  anyBelow-stop n m h l = is-true _ (λ e. clash _ h (anyBelow-false P m n e l))
+
+  pub countBelow-turn : (n : ℕ) → countBelow P (n + 1) ≡ countBelow P n + cond (P n) 1 0
+  unfolding countBelow
+  countBelow-turn n = rw add-one
+
+  pub select-turn : (n : ℕ) → select P (n + 1) ≡ select P n ++ cond (P n) (n ∷ []) []
+  unfolding select
+  select-turn n = rw add-one
+
+pub gather-turn : {A : Type 0} (g : ℕ → List A) (n : ℕ) → gather g (n + 1) ≡ gather g n ++ g n
+unfolding gather
+gather-turn g n = rw add-one

@@ -14,7 +14,7 @@ use Rattle.lists.specs.Scan.{firstAnswer}
 use Rattle.lists.proofs.Tests.{and-left, and-right, or-left-false, or-right-false}
 use Rattle.lists.proofs.Scan.{else-none, firstAnswer-none, anyBelow-false}
 use Rattle.model.specs.Inputs.{N, kind, pinCount, pinLine, isFlipFlop, isGate, I, F, O, L, Fault, faultCount, faultAt}
-use Rattle.model.specs.Refusals.{refuse, row1, pinsFit, spareUsed, misnames, rows2to5, row6, circuitRows, row7, row8, row9, faultFits, row10, row11, row12, row13, row14, gradeRefusal, chooseRefusal}
+use Rattle.model.specs.Refusals.{refuse, row1, pinsFit, spareUsed, misnamed, misnames, rows2to5, row6, circuitRows, row7, row8, row9, faultFits, row10, row11, row12, row13, row14, gradeRefusal, chooseRefusal}
 use Rattle.model.proofs.Total.{Total, TotalRow, bit-total}
 use Rattle.model.proofs.Implication.{gate-kind}
 use Rattle.model.proofs.Runs.{Valid}
@@ -53,8 +53,8 @@ unfolding pinsFit
 has-pin k p e h = pins-cases (eqb k 0) (leb k 3) p (ne-eqb k 0 (λ q. (let z : ⊥ = omega arith in z))) e
 
 named-at : (c : List ℕ) (n i : ℕ) → misnames c n ≡ false → i < pinCount c n → leb (cond (isGate c n) n (N c)) (pinLine c n (i + 1)) ≡ false
-unfolding misnames
-named-at c n i e h = anyBelow-false (λ i. leb (cond (isGate c n) n (N c)) (pinLine c n (i + 1))) (pinCount c n) i e h
+unfolding misnames misnamed
+named-at c n i e h = anyBelow-false (λ i. misnamed c n i) (pinCount c n) i e h
 
 flip-flop-kind : (c : List ℕ) (n : ℕ) → isFlipFlop c n ≡ true → kind c n ≡ 1
 unfolding isFlipFlop

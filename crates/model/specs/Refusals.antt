@@ -25,14 +25,22 @@ row1 c = refuse (eqb (length c) 0 || not (eqb (length c % 12) 0) || ltb 49152 (l
 unfoldable pub pinsFit : ℕ → ℕ → Bool
 pinsFit k pins = cond (eqb k 0) (eqb pins 0) (cond (leb k 3) (eqb pins 1) (leb 2 pins && leb pins 4))
 
+-- pin i + 1 is unused and not 0
+unfoldable pub unusedNamed : List ℕ → ℕ → ℕ → Bool
+unusedNamed c n i = leb (pinCount c n) i && ltb 0 (pinLine c n (i + 1))
+
 -- 4 | byte 2 above 1, byte 3 or an unused pin not 0
 unfoldable pub spareUsed : List ℕ → ℕ → Bool
-spareUsed c n =
-    ltb 1 (outputMark c n) || ltb 0 (spareByte c n) || anyBelow (λ i. leb (pinCount c n) i && ltb 0 (pinLine c n (i + 1))) 4
+spareUsed c n = ltb 1 (outputMark c n) || ltb 0 (spareByte c n) || anyBelow (λ i. unusedNamed c n i) 4
 
--- a gate (kinds 2 to 9) names only lower lines; a flip-flop names any line, itself included
+-- pin i + 1 breaks the naming rule or is N or more: a gate (kinds 2 to 9) names only lower lines; a flip-flop names any line, itself
+-- included
+unfoldable pub misnamed : List ℕ → ℕ → ℕ → Bool
+misnamed c n i = leb (cond (isGate c n) n (N c)) (pinLine c n (i + 1))
+
+-- 5 | a used pin does
 unfoldable pub misnames : List ℕ → ℕ → Bool
-misnames c n = anyBelow (λ i. leb (cond (isGate c n) n (N c)) (pinLine c n (i + 1))) (pinCount c n)
+misnames c n = anyBelow (λ i. misnamed c n i) (pinCount c n)
 
 -- each record in turn, 2 to 5
 unfoldable pub rows2to5 : List ℕ → ℕ → Refusal
