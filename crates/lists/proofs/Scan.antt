@@ -29,6 +29,16 @@ unfolding _else_
 else-is-none none b e h = h
 else-is-none (some a) b e h = absurd (Option·some-ne-none a e)
 
+pub else-found : {A : Type 0} (a b : Option A) (m : A) → a ≡ some m → a else b ≡ some m
+unfolding _else_
+else-found none b m e = absurd (Option·none-ne-some m e)
+else-found (some a) b m e = e
+
+pub else-skips : {A : Type 0} (a b : Option A) → a ≡ none → a else b ≡ b
+unfolding _else_
+else-skips none b e = refl
+else-skips (some a) b e = absurd (Option·some-ne-none a e)
+
 -- the first of two, into any family: the second is asked only where the first is none
 pub else-cases {ℓ} : {A : Type 0} (P : Option A → Type ℓ) (a b : Option A)
     → ((m : A) → a ≡ some m → P (some m)) → (a ≡ none → P b) → P (a else b)
@@ -250,8 +260,9 @@ module _ {A : Type 0} (g : ℕ → Option A) where
   unfolding firstAnswer _else_
   firstAnswer-stop n zero a e h l = absurd (let z : ⊥ = omega arith in z)
   firstAnswer-stop n (suc m) a e h l = elim (decLe (suc n) m) [
-      yes q ↦ rw (firstAnswer-stop n m a e h q)
-    | no q ↦ (let r : n ≡ m = omega arith in rw (rw r at e, rw r at h)) ]
+    | yes q ↦ rw (firstAnswer-stop n m a e h q)
+    | no q ↦ (let r : n ≡ m = omega arith in rw (rw r at e, rw r at h))
+  ]
 
 module _ (P : ℕ → Bool) where
   pub anyBelow-turn : (n : ℕ) → anyBelow P n ≡ false → P n ≡ false → anyBelow P (n + 1) ≡ false

@@ -1,5 +1,5 @@
 -- What is not refused is as the proofs want it: the rows of the table, read backwards.
-use mathlib.Core.Path.{_≡_, refl}
+use mathlib.Core.Path.{_≡_, refl, sym, _∙_}
 use Prim.Native.Nat.{ℕ, zero, suc, _+_, _*_, _/_, _%_, _≤_, _<_}
 use mathlib.Core.Bool.{Bool, true, false, cond, not, _&&_, _||_, true≢false}
 use mathlib.Core.List.{List, [], _∷_}
@@ -9,15 +9,15 @@ use lib.Dec.{eqb, leb, ltb}
 use native.Mathlib.Omega.{arith}
 use native.Mathlib.Decide.{decLe}
 use native.Mathlib.Nat.{div-add-mod', zero-mul}
-use borrow.Author.Tests.{eqb-true, leb-true, leb-false, ltb-false, not-false, ne-eqb}
+use borrow.Author.Tests.{eqb-true, leb-true, leb-false, ltb-true, ltb-false, not-false, ne-eqb}
 use Rattle.lists.specs.Scan.{firstAnswer}
 use Rattle.lists.proofs.Tests.{and-left, and-right, or-left-false, or-right-false}
 use Rattle.lists.proofs.Scan.{else-none, firstAnswer-none, anyBelow-false}
 use Rattle.model.specs.Inputs.{N, kind, pinCount, pinLine, isFlipFlop, isGate, I, F, O, L, Fault, faultCount, faultAt}
+use Rattle.model.specs.Accepted.{ValidCircuit, ValidTest, ValidFault}
 use Rattle.model.specs.Refusals.{refuse, row1, pinsFit, spareUsed, misnamed, misnames, rows2to5, row6, circuitRows, row7, row8, row9, faultFits, row10, row11, row12, row13, row14, gradeRefusal, chooseRefusal}
-use Rattle.model.proofs.Total.{Total, TotalRow, bit-total}
+use Rattle.model.proofs.Total.{TotalRow, bit-total}
 use Rattle.model.proofs.Implication.{gate-kind}
-use Rattle.model.proofs.Runs.{Valid}
 use Rattle.model.proofs.Sound.{Accepted}
 
 refuse-none : (b : Bool) (number position : ℕ) → refuse b number position ≡ none → b ≡ false
@@ -64,46 +64,56 @@ flip-flop-no-gate : (c : List ℕ) (n : ℕ) → isFlipFlop c n ≡ true → isG
 unfolding isGate
 flip-flop-no-gate c n e = rw (flip-flop-kind c n e)
 
-valid : (c : List ℕ) → firstAnswer (λ n. rows2to5 c n) (N c) ≡ none → Valid c
-valid c e = record {
-  kinds = λ n h. at n h .low;
-  pinned = λ n h g. has-pin _ _ (at n h .count) (omega (arith, gate-kind c n g));
-  lower = λ n i h g k.
-      let next : i + 1 ≡ suc i = omega arith in
-      leb-false n (pinLine c n (suc i)) (rw (g, next) at (named-at c n i (at n h .named) k));
-  fed = λ n h g.
-      let one : 0 < pinCount c n = has-pin _ _ (at n h .count) (omega (arith, flip-flop-kind c n g)) in
-      leb-false (N c) (pinLine c n 1) (rw (flip-flop-no-gate c n g) at (named-at c n 0 (at n h .named) one));
-}
-  where
-    at : (n : ℕ) → n < N c → Fits c n
-    at n h = fits c n (firstAnswer-none (λ n. rows2to5 c n) (N c) n e h)
+few : (x y : Bool) (p : ℕ) → cond x (eqb p 0) (cond y (eqb p 1) (leb 2 p && leb p 4)) ≡ true → p ≤ 4
+few true y p e = omega (arith, eqb-true p 0 e)
+few false true p e = omega (arith, eqb-true p 1 e)
+few false false p e = leb-true p 4 (and-right (leb 2 p) _ e)
+
+-- no line has more than four pins
+pub few-pins : (k p : ℕ) → pinsFit k p ≡ true → p ≤ 4
+unfolding pinsFit
+few-pins k p e = few (eqb k 0) (leb k 3) p e
 
 positive : (n : ℕ) → eqb n 0 ≡ false → 0 < n
 positive zero e = absurd (true≢false e)
 positive (suc n) e = omega arith
 
 -- ---- the circuit
-pub record GoodCircuit (c : List ℕ) : Type 0 where
-  pub records : Valid c
-  pub lines : N c ≤ 4096
-  pub inputs : 0 < I c
-  pub flipFlops : F c ≤ 256
+line-bytes : (c : List ℕ) → 12 * N c ≤ length c
+unfolding N
+line-bytes c = omega arith
 
-pub goodCircuit : (c : List ℕ) → circuitRows c ≡ none → GoodCircuit c
-unfolding circuitRows row1 row6 N
-goodCircuit c e =
+line-limit : (c : List ℕ) → length c ≤ 49152 → N c ≤ 4096
+unfolding N
+line-limit c h = omega arith
+
+pub validCircuit : (c : List ℕ) → circuitRows c ≡ none → ValidCircuit c
+unfolding circuitRows row1 row6
+validCircuit c e =
     let a = else-none (row1 c) _ e in
     let b = else-none (firstAnswer (λ n. rows2to5 c n) (N c)) _ (a .1) in
     let size : eqb (length c) 0 || not (eqb (length c % 12) 0) || ltb 49152 (length c) ≡ false = refuse-none _ 1 0 (a .0) in
     let short : length c ≤ 49152 = ltb-false 49152 (length c) (or-right-false (eqb (length c) 0 || not (eqb (length c % 12) 0)) _ size) in
     let ends : eqb (I c) 0 || eqb (O c) 0 || ltb 256 (I c) || ltb 256 (F c) || ltb 256 (O c) ≡ false = refuse-none _ 6 0 (b .1) in
-    let most : eqb (I c) 0 || eqb (O c) 0 || ltb 256 (I c) || ltb 256 (F c) ≡ false = or-left-false _ _ ends in
+    let flops : eqb (I c) 0 || eqb (O c) 0 || ltb 256 (I c) || ltb 256 (F c) ≡ false = or-left-false _ (ltb 256 (O c)) ends in
+    let ins : eqb (I c) 0 || eqb (O c) 0 || ltb 256 (I c) ≡ false = or-left-false _ (ltb 256 (F c)) flops in
+    let at : (n : ℕ) → n < N c → Fits c n = λ n h. fits c n (firstAnswer-none (λ n. rows2to5 c n) (N c) n (b .0) h) in
     record {
-      records = valid c (b .0);
-      lines = omega arith;
-      inputs = positive _ (or-left-false _ _ (or-left-false _ _ (or-left-false _ _ most)));
-      flipFlops = ltb-false 256 (F c) (or-right-false (eqb (I c) 0 || eqb (O c) 0 || ltb 256 (I c)) _ most);
+      size = line-bytes c;
+      lines = line-limit c short;
+      kinds = λ n h. at n h .low;
+      pinned = λ n h g. has-pin _ _ (at n h .count) (omega (arith, gate-kind c n g));
+      few = λ n h. few-pins _ _ (at n h .count);
+      lower = λ n i h g k.
+          let next : i + 1 ≡ suc i = omega arith in
+          leb-false n (pinLine c n (suc i)) (rw (g, next) at (named-at c n i (at n h .named) k));
+      fed = λ n h g.
+          let one : 0 < pinCount c n = has-pin _ _ (at n h .count) (omega (arith, flip-flop-kind c n g)) in
+          leb-false (N c) (pinLine c n 1) (rw (flip-flop-no-gate c n g) at (named-at c n 0 (at n h .named) one));
+      someInput = positive _ (or-left-false _ (eqb (O c) 0) (or-left-false _ (ltb 256 (I c)) ins));
+      inputs = ltb-false 256 (I c) (or-right-false (eqb (I c) 0 || eqb (O c) 0) _ ins);
+      flipFlops = ltb-false 256 (F c) (or-right-false (eqb (I c) 0 || eqb (O c) 0 || ltb 256 (I c)) _ flops);
+      outputs = ltb-false 256 (O c) (or-right-false (eqb (I c) 0 || eqb (O c) 0 || ltb 256 (I c) || ltb 256 (F c)) _ ends);
     }
 
 -- ---- the test
@@ -122,48 +132,49 @@ units-positive n i h e = elim (decLe 1 (n / i)) [
       omega (arith, zero-mul i))
 ]
 
-pub record GoodTest (c t : List ℕ) : Type 0 where
-  pub bytes : TotalRow t
-  pub some : 0 < L c t
-  pub most : L c t ≤ 1024
-
-pub goodTest : (c t : List ℕ) → row7 c t ≡ none → row8 t ≡ none → GoodTest c t
+pub validTest : (c t : List ℕ) → row7 c t ≡ none → row8 t ≡ none → ValidTest c t
 unfolding row7 row8 L
-goodTest c t e g =
+validTest c t e g =
     let size : eqb (length t) 0 || not (eqb (length t % I c) 0) || ltb 1024 (L c t) ≡ false = refuse-none _ 7 0 e in
     let whole : eqb (length t) 0 || not (eqb (length t % I c) 0) ≡ false = or-left-false _ _ size in
+    let none-left : length t % I c ≡ 0 = eqb-true _ _ (not-false _ (or-right-false (eqb (length t) 0) _ whole)) in
     record {
-      bytes = total-test t (λ b q. ltb-false 1 (getD t b 0) (refuse-none _ 8 b (firstAnswer-none (λ b. refuse (ltb 1 (getD t b 0)) 8 b) (length t) b g q)));
-      some = units-positive (length t) (I c) (positive _ (or-left-false _ _ whole)) (eqb-true _ _ (not-false _ (or-right-false (eqb (length t) 0) _ whole)));
+      whole = sym (div-add-mod' (length t) (I c)) ∙ rw none-left (let z : length t / I c * I c + 0 ≡ length t / I c * I c = omega arith in z);
+      bytes = λ b q. ltb-false 1 (getD t b 0) (refuse-none _ 8 b (firstAnswer-none (λ b. refuse (ltb 1 (getD t b 0)) 8 b) (length t) b g q));
+      some = units-positive (length t) (I c) (positive _ (or-left-false _ _ whole)) none-left;
       most = ltb-false 1024 (L c t) (or-right-false (eqb (length t) 0 || not (eqb (length t % I c) 0)) _ size);
     }
 
 -- ---- the faults
-fault-value : (c : List ℕ) (f : Fault) → faultFits c f ≡ true → Total (f .value)
+fault-fits : (c : List ℕ) (f : Fault) → faultFits c f ≡ true → ValidFault c f
 unfolding faultFits
-fault-value c f e =
-    bit-total (f .value) (omega (arith, leb-true (f .value) 1 (and-right (ltb (f .line) (N c) && leb (f .pin) (pinCount c (f .line))) _ e)))
+fault-fits c f e =
+    let both : ltb (f .line) (N c) && leb (f .pin) (pinCount c (f .line)) ≡ true = and-left _ _ e in
+    record {
+      line = ltb-true _ _ (and-left _ _ both);
+      pin = leb-true _ _ (and-right (ltb (f .line) (N c)) _ both);
+      value = leb-true _ _ (and-right (ltb (f .line) (N c) && leb (f .pin) (pinCount c (f .line))) _ e);
+    }
 
-pub goodFault : (c fs : List ℕ) (j : ℕ) → row10 c fs ≡ none → j < faultCount fs → Total (faultAt fs j .value)
+pub validFault : (c fs : List ℕ) (j : ℕ) → row10 c fs ≡ none → j < faultCount fs → ValidFault c (faultAt fs j)
 unfolding row10
-goodFault c fs j e h =
-    fault-value c (faultAt fs j)
+validFault c fs j e h =
+    fault-fits c (faultAt fs j)
     (not-false _ (refuse-none _ 10 j (firstAnswer-none (λ j. refuse (not (faultFits c (faultAt fs j))) 10 j) (faultCount fs) j e h)))
 
 -- ---- what the calls have in common: circuit, test and one fault
-pub accepted : (c t fs : List ℕ) (j : ℕ) → GoodCircuit c → GoodTest c t → row10 c fs ≡ none → j < faultCount fs → Accepted c t (faultAt fs j)
-accepted c t fs j good test e h = record {
-  circuit = good .records;
-  test = test .bytes;
-  inputs = good .inputs;
+pub accepted : (c t fs : List ℕ) (j : ℕ) → ValidCircuit c → ValidTest c t → row10 c fs ≡ none → j < faultCount fs → Accepted c t (faultAt fs j)
+accepted c t fs j circuit test e h = record {
+  circuit = circuit;
+  test = total-test t (test .bytes);
   units = test .some;
-  value = goodFault c fs j e h;
+  value = bit-total _ (omega (arith, validFault c fs j e h .value));
 }
 
 -- ---- a job that Grade accepts
 pub record GradeJob (c t fs p : List ℕ) (k work result : ℕ) : Type 0 where
-  pub circuit : GoodCircuit c
-  pub test : GoodTest c t
+  pub circuit : ValidCircuit c
+  pub test : ValidTest c t
   pub faults : row10 c fs ≡ none
   pub limit : k ≤ 12
   pub room : 16 * faultCount fs ≤ result
@@ -180,8 +191,8 @@ gradeJob c t fs p k work result e =
     let i = else-none (row12 k) _ (h .1) in
     let j = else-none (row13 c t work) _ (i .1) in
     record {
-      circuit = goodCircuit c (a .0);
-      test = goodTest c t (b .0) (d .0);
+      circuit = validCircuit c (a .0);
+      test = validTest c t (b .0) (d .0);
       faults = g .0;
       limit = ltb-false 12 k (refuse-none _ 12 0 (i .0));
       room = ltb-false result (16 * faultCount fs) (refuse-none _ 14 0 (j .1));
@@ -189,8 +200,8 @@ gradeJob c t fs p k work result e =
 
 -- ---- a job that Choose accepts
 pub record ChooseJob (c t : List ℕ) : Type 0 where
-  pub circuit : GoodCircuit c
-  pub test : GoodTest c t
+  pub circuit : ValidCircuit c
+  pub test : ValidTest c t
 
 pub chooseJob : (c t fs : List ℕ) (k work result : ℕ) → chooseRefusal c t fs k work result ≡ none → ChooseJob c t
 unfolding chooseRefusal
@@ -198,4 +209,4 @@ chooseJob c t fs k work result e =
     let a = else-none (circuitRows c) _ e in
     let b = else-none (row7 c t) _ (a .1) in
     let d = else-none (row8 t) _ (b .1) in
-    record { circuit = goodCircuit c (a .0); test = goodTest c t (b .0) (d .0) }
+    record { circuit = validCircuit c (a .0); test = validTest c t (b .0) (d .0) }

@@ -11,7 +11,7 @@ use borrow.Author.Tests.{leb-true, not-true}
 use Rattle.lists.proofs.Tests.{and-left, and-right, or-cases, cond-cases}
 use Rattle.lists.proofs.Scan.{length-tabulate, getD-tabulate}
 use Rattle.model.specs.Inputs.{N, kind, pinCount, pinLine, isGate, Fault}
-use Rattle.model.specs.Values.{X, isSpecified, gate, give, hasConflict, opposes, someOppose}
+use Rattle.model.specs.Values.{X, gate, give, hasConflict, opposes, someOppose}
 use Rattle.model.specs.Simulation.{isStuck, seen, pinSeen, pinsSeen}
 use Rattle.model.specs.Implication.{implies, giveLine, givePins, downLine, down, upLine, up, implied}
 use Rattle.model.proofs.Allows.{Allows, AllowsRow, gate-allows, pinsSeen-allows, getD-allows}

@@ -12,17 +12,11 @@ use borrow.Author.Tests.{eqb-false, le-leb, ne-eqb}
 use Rattle.lists.proofs.Tests.{cond-cases}
 use Rattle.lists.proofs.Scan.{countBelow-less, tabulate-same, All, all-at, select-all, length-select}
 use Rattle.model.specs.Inputs.{N, kind, pinCount, pinLine, isInput, isFlipFlop, isGate, flipFlops, flipFlopLine, I, F, Fault}
+use Rattle.model.specs.Accepted.{ValidCircuit}
 use Rattle.model.specs.Values.{X, gate}
 use Rattle.model.specs.Simulation.{isStuck, seen, pinSeen, pinsSeen, behind, valuesBelow, lineValues, nextState}
 use Rattle.model.proofs.Total.{Total, TotalRow, nil-total, cons-total, append-total, tabulate-total, getD-total, gate-total}
 use Rattle.model.proofs.Implication.{Settled, unstuck, length-pinsSeen, gate-kind}
-
--- what rows 2 to 5 of the table give of a circuit
-pub record Valid (c : List ℕ) : Type 0 where
-  pub kinds : (n : ℕ) → n < N c → kind c n ≤ 9
-  pub pinned : (n : ℕ) → n < N c → isGate c n ≡ true → 0 < pinCount c n
-  pub lower : (n i : ℕ) → n < N c → isGate c n ≡ true → i < pinCount c n → pinLine c n (suc i) < n
-  pub fed : (n : ℕ) → n < N c → isFlipFlop c n ≡ true → pinLine c n 1 < N c
 
 -- a line that is neither input nor flip-flop is a gate
 pub gate-left : (c : List ℕ) (n : ℕ) → isInput c n ≡ false → isFlipFlop c n ≡ false → isGate c n ≡ true
@@ -89,7 +83,7 @@ map-total g P [] h e = tt
 map-total g P (n ∷ ns) h e = (e n (h .0), map-total g P ns (h .1) e)
 
 -- ---- one unit
-module _ (c : List ℕ) (valid : Valid c) (f : Fault) (stuck : Total (f .value)) where
+module _ (c : List ℕ) (valid : ValidCircuit c) (f : Fault) (stuck : Total (f .value)) where
   seen-total : (n pin v : ℕ) → Total v → Total (seen f n pin v)
   unfolding seen
   seen-total n pin v h = cond-cases Total (isStuck f n pin) _ v (λ _. stuck) (λ _. h)

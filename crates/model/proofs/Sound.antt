@@ -14,7 +14,8 @@ use Rattle.lists.specs.Scan.{anyBelow}
 use Rattle.lists.proofs.Tests.{and-left, and-right, and-fails, or-cases, cond-cases, clash, is-false, is-true}
 use Rattle.lists.proofs.Scan.{anyBelow-false, anyBelow-none, countBelow-positive}
 use Rattle.model.specs.Inputs.{N, pinLine, isOutput, flipFlopLine, outputLines, I, F, L, inputsAt, Fault, planCount, planPair}
-use Rattle.model.specs.Values.{X, giveRow, hasConflict, someOppose}
+use Rattle.model.specs.Accepted.{ValidCircuit}
+use Rattle.model.specs.Values.{X, giveRow, someOppose}
 use Rattle.model.specs.Simulation.{lineValues, outputs, nextState, powerUp, stateAt, valuesAt, outputsAt, plainState, plainValues, plainOutputs, freeValues, freeOutputs}
 use Rattle.model.specs.Starts.{bits, startingState, differs}
 use Rattle.model.specs.Expansion.{countOpen, nothing, nsv, openPlaces, nout, impliedAt, marked, extra, tried, bothMarked, alone, written, rowAfter, opposedWrite, stateRow}
@@ -23,14 +24,13 @@ use Rattle.model.specs.Grade.{opposedAt}
 use Rattle.model.proofs.Allows.{Allows, AllowsRow, outputs-allows, nextState-allows, lineValues-allows, stateAt-allows, valuesAt-allows, outputsAt-allows}
 use Rattle.model.proofs.Total.{Total, TotalRow, take-total, drop-total, total-allows, totalRow-allows, total-bit, total-cases, getD-total, allows-equal}
 use Rattle.model.proofs.Implication.{Settled, implied-allows, no-conflict, someOppose-allows}
-use Rattle.model.proofs.Runs.{Valid, flipFlopLine-holds, length-nextState, length-lineValues, lineValues-total, nextState-total, settled}
+use Rattle.model.proofs.Runs.{flipFlopLine-holds, length-nextState, length-lineValues, lineValues-total, nextState-total, settled}
 use Rattle.model.proofs.Rows.{giveRow-allows, rows-agree, whereX-allows, unknown-allows, set-allows, length-bits, bits-total, someOppose-select, closed-row, countX-unknown}
 
 -- what an accepted job gives of its circuit, its test and one of its faults
 pub record Accepted (c t : List ℕ) (f : Fault) : Type 0 where
-  pub circuit : Valid c
+  pub circuit : ValidCircuit c
   pub test : TotalRow t
-  pub inputs : 0 < I c
   pub units : 0 < L c t
   pub value : Total (f .value)
 
@@ -85,7 +85,7 @@ module _ (c t : List ℕ) (f : Fault) (a : Accepted c t f) where
   length-inputs : (u : ℕ) → u < L c t → length (inputsAt c t u) ≡ I c
   unfolding inputsAt L
   length-inputs u h =
-      let m : suc u * I c ≤ length t = le-div-iff-mul-le (a .inputs) .0 h in
+      let m : suc u * I c ≤ length t = le-div-iff-mul-le (a .circuit .someInput) .0 h in
       simp (length-take, length-drop) (omega arith)
 
   -- ---- the run from a total state

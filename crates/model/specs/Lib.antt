@@ -1,6 +1,7 @@
 -- Document 01 as definitions, in its order, and the statements of what is proved of them.
 pub mod Inputs
 pub mod Refusals
+pub mod Accepted
 pub mod Values
 pub mod Simulation
 pub mod Starts

@@ -1,0 +1,27 @@
+use mathlib.Core.Path.{refl}
+use Rattle.model.specs.Inputs.{outputMark}
+use borrow.Author.Needs.{needs}
+use Rattle.circuit.proofs.mark_of.Statement.{statement}
+use Rattle.circuit.proofs.mark_of.Tie as tie
+use Rattle.circuit.proofs.mark_of.Reads as reads
+use Rattle.circuit.proofs.mark_of.Lts as lts
+
+-- src/lib.rt:50:7
+mul-result : tie.Need-mul-result
+mul-result c = search needs
+
+-- src/lib.rt:50:7
+add-result : tie.Need-add-result
+add-result c = search needs
+
+-- src/lib.rt:50:5
+shared-slice-read-result : tie.Need-shared-slice-read-result
+shared-slice-read-result c = search needs
+
+-- src/lib.rt:46:1
+returns : tie.Need-returns
+unfolding outputMark
+returns c = refl
+
+pub mark-of-spec : {M : Type 1} → statement M
+mark-of-spec = tie.close (tie.spec mul-result add-result shared-slice-read-result returns)

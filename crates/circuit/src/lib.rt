@@ -1,0 +1,268 @@
+// Circuit records: their fields, the sizes of a circuit, the tables of its flip-flops and outputs, and rows 1 to 6 of the table of refusals.
+ghost use mathlib.Core.Path.{_≡_};
+ghost use mathlib.Core.Bool.{cond, _&&_, _||_};
+ghost use mathlib.Core.List.{List};
+ghost use Prim.Native.Nat.{ℕ, _+_, _*_, _<_, _≤_};
+ghost use lib.ListN.{length};
+ghost use lib.Dec.{leb};
+ghost use Rattle.lists.specs.Scan.{_else_, anyBelow, firstAnswer};
+ghost use Rattle.model.specs.Inputs.{N, kind, pinCount, outputMark, spareByte, pinLine, isGate};
+ghost use Rattle.model.specs.Refusals.{refuse, row1, pinsFit, unusedNamed, spareUsed, misnames, rows2to5, row6, circuitRows};
+ghost use Rattle.circuit.specs.Check.{refusalOf, SizesOf};
+
+// Whether a rule is broken, and if so its number and position.
+pub enum Check {
+    Passed,
+    Broken { rule: u8, at: usize },
+}
+
+impl Check {
+    // Broken where the test holds.
+    pub fn refuse(broken: bool, rule: u8, at: usize) -> Check
+        ensures { λ r. ⌜ refusalOf r ≡ refuse broken rule at ⌝ }
+    {
+        if broken {
+            return Check::Broken { rule, at };
+        }
+        Check::Passed
+    }
+
+    // The first that is broken.
+    pub fn or(self, later: Check) -> Check
+        ensures { λ r. ⌜ refusalOf r ≡ (refusalOf self else refusalOf later) ⌝ }
+    {
+        let first = self;
+        match first {
+            Check::Passed => later,
+            Check::Broken { rule, at } => Check::Broken { rule, at },
+        }
+    }
+}
+
+pub fn either(a: bool, b: bool) -> bool
+    ensures { λ r. ⌜ r ≡ (a || b) ⌝ }
+{
+    if a {
+        return true;
+    }
+    b
+}
+
+pub fn both(a: bool, b: bool) -> bool
+    ensures { λ r. ⌜ r ≡ (a && b) ⌝ }
+{
+    if a {
+        return b;
+    }
+    false
+}
+
+// N, I, F and O.
+pub struct Sizes {
+    pub lines: usize,
+    pub inputs: usize,
+    pub flops: usize,
+    pub outputs: usize,
+}
+
+pub fn wide(x: u8) -> usize
+    ensures { λ r. ⌜ (r ≡ x) × (r < 256) ⌝ }
+{
+    x as usize
+}
+
+pub fn kind_of(c: &[u8], n: usize) -> u8
+    requires { ⌜ 12 * n + 12 ≤ length (now c) ⌝ }
+    ensures { λ r. ⌜ r ≡ kind (now (c .entry)) n ⌝ }
+{
+    c[12 * n]
+}
+
+pub fn pins_of(c: &[u8], n: usize) -> usize
+    requires { ⌜ 12 * n + 12 ≤ length (now c) ⌝ }
+    ensures { λ r. ⌜ (r ≡ pinCount (now (c .entry)) n) × (r < 256) ⌝ }
+{
+    wide(c[12 * n + 1])
+}
+
+pub fn mark_of(c: &[u8], n: usize) -> u8
+    requires { ⌜ 12 * n + 12 ≤ length (now c) ⌝ }
+    ensures { λ r. ⌜ r ≡ outputMark (now (c .entry)) n ⌝ }
+{
+    c[12 * n + 2]
+}
+
+fn spare_of(c: &[u8], n: usize) -> u8
+    requires { ⌜ 12 * n + 12 ≤ length (now c) ⌝ }
+    ensures { λ r. ⌜ r ≡ spareByte (now (c .entry)) n ⌝ }
+{
+    c[12 * n + 3]
+}
+
+// The line that pin p, 1 to 4, names.
+pub fn pin_of(c: &[u8], n: usize, p: usize) -> usize
+    requires { ⌜ (12 * n + 12 ≤ length (now c)) × (1 ≤ p) × (p ≤ 4) ⌝ }
+    ensures { λ r. ⌜ (r ≡ pinLine (now (c .entry)) n p) × (r < 65536) ⌝ }
+{
+    let low = wide(c[12 * n + 2 + 2 * p]);
+    let high = wide(c[12 * n + 2 + 2 * p + 1]);
+    low + 256 * high
+}
+
+// Row 3.
+fn pins_fit(k: u8, pins: usize) -> bool
+    ensures { λ r. ⌜ r ≡ pinsFit k pins ⌝ }
+{
+    match k {
+        0 => pins == 0,
+        1..=3 => pins == 1,
+        _ => both(2 <= pins, pins <= 4),
+    }
+}
+
+// Row 4's unused pins.
+fn unused_named(c: &[u8], n: usize, pins: usize) -> bool
+    requires { ⌜ (12 * n + 12 ≤ length (now c)) × (pins ≡ pinCount (now c) n) ⌝ }
+    ensures { λ r. ⌜ r ≡ anyBelow (λ i. unusedNamed (now (c .entry)) n i) 4 ⌝ }
+{
+    let mut i: usize = 0;
+    while i < 4 {
+        if both(pins <= i, 0 < pin_of(c, n, i + 1)) {
+            return true;
+        }
+        i += 1;
+    }
+    false
+}
+
+// Row 5: a pin may name a line below `limit`.
+fn misnames_from(c: &[u8], n: usize, pins: usize, limit: usize) -> bool
+    requires { ⌜ (12 * n + 12 ≤ length (now c)) × (pins ≡ pinCount (now c) n) × (pins ≤ 4) × (limit ≡ cond (isGate (now c) n) n (N (now c))) ⌝ }
+    ensures { λ r. ⌜ r ≡ misnames (now (c .entry)) n ⌝ }
+{
+    let mut i: usize = 0;
+    while i < pins {
+        if limit <= pin_of(c, n, i + 1) {
+            return true;
+        }
+        i += 1;
+    }
+    false
+}
+
+fn limit_of(k: u8, lines: usize, n: usize) -> usize
+    ensures { λ r. ⌜ r ≡ cond (leb 2 k) n lines ⌝ }
+{
+    if 2 <= k { n } else { lines }
+}
+
+// Rows 4 and 5 of a record with so many pins.
+fn check_pins(c: &[u8], lines: usize, n: usize, k: u8, pins: usize) -> Check
+    requires { ⌜ (12 * n + 12 ≤ length (now c)) × (lines ≡ N (now c)) × (k ≡ kind (now c) n) × (pins ≡ pinCount (now c) n) × (pins ≤ 4) ⌝ }
+    ensures { λ r. ⌜ refusalOf r ≡ (refuse (spareUsed (now (c .entry)) n) 4 n else refuse (misnames (now (c .entry)) n) 5 n) ⌝ }
+{
+    let spare = either(
+        either(1 < mark_of(c, n), 0 < spare_of(c, n)),
+        unused_named(c, n, pins),
+    );
+    let wrong = misnames_from(c, n, pins, limit_of(k, lines, n));
+    Check::refuse(spare, 4, n).or(Check::refuse(wrong, 5, n))
+}
+
+// Rows 2 to 5.
+fn check_record(c: &[u8], lines: usize, n: usize) -> Check
+    requires { ⌜ (12 * n + 12 ≤ length (now c)) × (lines ≡ N (now c)) ⌝ }
+    ensures { λ r. ⌜ refusalOf r ≡ rows2to5 (now (c .entry)) n ⌝ }
+{
+    let k = kind_of(c, n);
+    let pins = pins_of(c, n);
+    if 9 < k {
+        return Check::Broken { rule: 2, at: n };
+    }
+    if !pins_fit(k, pins) {
+        return Check::Broken { rule: 3, at: n };
+    }
+    check_pins(c, lines, n, k, pins)
+}
+
+// Each record in turn.
+fn check_records(c: &[u8], lines: usize) -> Check
+    requires { ⌜ (12 * lines ≤ length (now c)) × (lines ≡ N (now c)) ⌝ }
+    ensures { λ r. ⌜ refusalOf r ≡ firstAnswer (λ n. rows2to5 (now (c .entry)) n) lines ⌝ }
+{
+    let mut n: usize = 0;
+    while n < lines {
+        let check = check_record(c, lines, n);
+        if let Check::Broken { rule, at } = check {
+            return Check::Broken { rule, at };
+        }
+        n += 1;
+    }
+    Check::Passed
+}
+
+fn one_if(b: bool) -> usize
+    ensures { λ r. ⌜ (r ≡ cond b 1 0) × (r ≤ 1) ⌝ }
+{
+    if b { 1 } else { 0 }
+}
+
+// The sizes of a circuit with so many lines.
+pub fn sizes_of(c: &[u8], lines: usize) -> Sizes
+    requires { ⌜ (12 * lines ≤ length (now c)) × (lines ≡ N (now c)) ⌝ }
+    ensures { λ r. ⌜ SizesOf (now (c .entry)) r ⌝ }
+{
+    let mut inputs: usize = 0;
+    let mut flops: usize = 0;
+    let mut outputs: usize = 0;
+    let mut n: usize = 0;
+    while n < lines {
+        let k = kind_of(c, n);
+        inputs += one_if(k == 0);
+        flops += one_if(k == 1);
+        outputs += one_if(mark_of(c, n) == 1);
+        n += 1;
+    }
+    Sizes {
+        lines,
+        inputs,
+        flops,
+        outputs,
+    }
+}
+
+// Row 6.
+fn check_sizes(s: Sizes) -> Check
+    ensures { λ r. ⌜ ((c : List ℕ) → SizesOf c s → refusalOf r ≡ row6 c) ⌝ }
+{
+    let none = either(s.inputs == 0, s.outputs == 0);
+    let many = either(
+        either(either(none, 256 < s.inputs), 256 < s.flops),
+        256 < s.outputs,
+    );
+    Check::refuse(many, 6, 0)
+}
+
+// Row 1.
+fn check_length(size: usize) -> Check
+    ensures { λ r. ⌜ ((c : List ℕ) → length c ≡ size → refusalOf r ≡ row1 c) ⌝ }
+{
+    Check::refuse(
+        either(either(size == 0, size % 12 != 0), 49152 < size),
+        1,
+        0,
+    )
+}
+
+// Rows 1 to 6.
+pub fn check_circuit(c: &[u8]) -> Check
+    ensures { λ r. ⌜ refusalOf r ≡ circuitRows (now (c .entry)) ⌝ }
+{
+    let size = c.len();
+    let length = check_length(size);
+    if let Check::Broken { rule, at } = length {
+        return Check::Broken { rule, at };
+    }
+    let lines = size / 12;
+    check_records(c, lines).or(check_sizes(sizes_of(c, lines)))
+}

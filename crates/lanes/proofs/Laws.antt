@@ -1,0 +1,229 @@
+-- The gates in one lane, and words stored and read.
+use mathlib.Core.Path.{_≡_, refl, sym, _∙_, ap}
+use mathlib.Core.Bool.{Bool, true, false, cond, _&&_, _||_, true≢false}
+use mathlib.Core.List.{List, [], _∷_, _++_}
+use Prim.Native.Nat.{ℕ, zero, suc, _/_, _+_, _*_, _%_, _^_, _<_, _≤_}
+use native.Mathlib.Omega.{arith}
+use native.Mathlib.Decide.{decLe}
+use lib.Dec.{eqb}
+use borrow.Author.Tests.{eqb-true, eq-eqb}
+use lib.ListN.{getD, length, set, length-set, length-append, List·getD-append}
+use lib.Seq.{getD-at, getD-set-same, getD-set-other}
+use lib.Bits.{bitAnd, bitOr, bitXor}
+use Rattle.model.specs.Values.{invert, andPair, xorPair, andOf, orOf, invertAll, xorOf, evenGate}
+use Rattle.lanes.specs.Lane.{bit, is0, is1, Shows, Lane}
+use Rattle.lanes.proofs.Bits.{bit-and, bit-or, bit-xor, bit-none, bit-all, bit-one, xorB}
+
+is0-inv : (v : ℕ) → is0 (invert v) ≡ is1 v
+unfolding is0 is1 invert
+is0-inv zero = refl
+is0-inv (suc zero) = refl
+is0-inv (suc (suc v)) = refl
+
+is1-inv : (v : ℕ) → is1 (invert v) ≡ is0 v
+unfolding is0 is1 invert
+is1-inv zero = refl
+is1-inv (suc zero) = refl
+is1-inv (suc (suc v)) = refl
+
+is-and : (v w : ℕ) → ((is0 v || is0 w) ≡ is0 (andPair v w)) × ((is1 v && is1 w) ≡ is1 (andPair v w))
+unfolding is0 is1 andPair
+is-and zero w = (refl, refl)
+is-and (suc zero) zero = (refl, refl)
+is-and (suc zero) (suc zero) = (refl, refl)
+is-and (suc zero) (suc (suc w)) = (refl, refl)
+is-and (suc (suc v)) zero = (refl, refl)
+is-and (suc (suc v)) (suc zero) = (refl, refl)
+is-and (suc (suc v)) (suc (suc w)) = (refl, refl)
+
+is-xor : (v w : ℕ) → (((is0 v && is0 w) || (is1 v && is1 w)) ≡ is0 (xorPair v w)) × (((is0 v && is1 w) || (is1 v && is0 w)) ≡ is1 (xorPair v w))
+unfolding is0 is1 xorPair
+is-xor zero zero = (refl, refl)
+is-xor zero (suc zero) = (refl, refl)
+is-xor zero (suc (suc w)) = (refl, refl)
+is-xor (suc zero) zero = (refl, refl)
+is-xor (suc zero) (suc zero) = (refl, refl)
+is-xor (suc zero) (suc (suc w)) = (refl, refl)
+is-xor (suc (suc v)) w = (refl, refl)
+
+module _ (t z o v : ℕ) (h : Shows t z o v) where
+  pub shows-inv : Shows t o z (invert v)
+  shows-inv = record { zero? = h .one? ∙ sym (is0-inv v); one? = h .zero? ∙ sym (is1-inv v) }
+
+  -- OR is AND between two inversions
+  pub shows-uninv : (a : ℕ) → v ≡ invert a → Shows t o z a
+  shows-uninv a e = record { zero? = h .one? ∙ ap is1 e ∙ is1-inv a; one? = h .zero? ∙ ap is0 e ∙ is0-inv a }
+
+module _ (t z o v z′ o′ w : ℕ) (h : Shows t z o v) (g : Shows t z′ o′ w) where
+  pub shows-and : Shows t (bitOr z z′) (bitAnd o o′) (andPair v w)
+  shows-and = record {
+    zero? = bit-or t z z′ ∙ rw (h .zero?, g .zero?) (is-and v w .0);
+    one? = bit-and t o o′ ∙ rw (h .one?, g .one?) (is-and v w .1);
+  }
+
+  pub shows-xor : Shows t (bitOr (bitAnd z z′) (bitAnd o o′)) (bitOr (bitAnd z o′) (bitAnd o z′)) (xorPair v w)
+  shows-xor = record {
+    zero? = bit-or t (bitAnd z z′) (bitAnd o o′) ∙ rw (bit-and t z z′, bit-and t o o′, h .zero?, g .zero?, h .one?, g .one?) (is-xor v w .0);
+    one? = bit-or t (bitAnd z o′) (bitAnd o z′) ∙ rw (bit-and t z o′, bit-and t o z′, h .zero?, g .zero?, h .one?, g .one?) (is-xor v w .1);
+  }
+
+pub shows-or : (t z o v z′ o′ : ℕ) (ws : List ℕ) → Shows t z o v → Shows t z′ o′ (orOf ws) → Shows t (bitAnd z z′) (bitOr o o′) (orOf (v ∷ ws))
+unfolding orOf andOf invertAll
+shows-or t z o v z′ o′ ws h g =
+    shows-inv t _ _ _ (shows-and t o z (invert v) o′ z′ (andOf (invertAll ws)) (shows-inv t z o v h) (shows-uninv t z′ o′ _ g _ refl))
+
+-- the same value in all lanes
+module _ (t : ℕ) where
+  pub shows-0 : t < 64 → Shows t 0xffffffffffffffff 0 0
+  unfolding is0 is1
+  shows-0 h = record { zero? = bit-all t h; one? = bit-none t }
+
+  pub shows-1 : t < 64 → Shows t 0 0xffffffffffffffff 1
+  unfolding is0 is1
+  shows-1 h = record { zero? = bit-none t; one? = bit-all t h }
+
+  pub shows-x : (v : ℕ) → 1 < v → Shows t 0 0 v
+  unfolding is0 is1
+  shows-x zero h = absurd (let z : ⊥ = omega arith in z)
+  shows-x (suc zero) h = absurd (let z : ⊥ = omega arith in z)
+  shows-x (suc (suc v)) h = record { zero? = bit-none t; one? = bit-none t }
+
+-- a stuck place: set in one word, taken out of the other
+masked : (x on off : Bool) → Bool
+masked x on off = xorB (x || off) off || on
+
+is-stuck : (hit : Bool) (s v : ℕ) → s < 2
+    → (masked (is0 v) (is0 (cond hit s 2)) (is1 (cond hit s 2)) ≡ is0 (cond hit s v)) × (masked (is1 v) (is1 (cond hit s 2)) (is0 (cond hit s 2)) ≡ is1 (cond hit s v))
+unfolding is0 is1 masked xorB
+is-stuck false s zero h = (refl, refl)
+is-stuck false s (suc zero) h = (refl, refl)
+is-stuck false s (suc (suc v)) h = (refl, refl)
+is-stuck true zero zero h = (refl, refl)
+is-stuck true zero (suc zero) h = (refl, refl)
+is-stuck true zero (suc (suc v)) h = (refl, refl)
+is-stuck true (suc zero) zero h = (refl, refl)
+is-stuck true (suc zero) (suc zero) h = (refl, refl)
+is-stuck true (suc zero) (suc (suc v)) h = (refl, refl)
+is-stuck true (suc (suc s)) v h = absurd (let z : ⊥ = omega arith in z)
+
+pub shows-stuck : (t z o v a b : ℕ) (hit : Bool) (s : ℕ) → s < 2 → Shows t a b (cond hit s 2) → Shows t z o v
+    → Shows t (bitOr (bitXor (bitOr z b) b) a) (bitOr (bitXor (bitOr o a) a) b) (cond hit s v)
+unfolding masked
+shows-stuck t z o v a b hit s l m h = record {
+  zero? = rw (bit-or t (bitXor (bitOr z b) b) a, bit-xor t (bitOr z b) b, bit-or t z b, m .zero?, m .one?, h .zero?) (is-stuck hit s v l .0);
+  one? = rw (bit-or t (bitXor (bitOr o a) a) b, bit-xor t (bitOr o a) a, bit-or t o a, m .zero?, m .one?, h .one?) (is-stuck hit s v l .1);
+}
+
+-- one place's words are stored
+module _ (t : ℕ) (ws vs : List ℕ) where
+  pub lane-at : (m : ℕ) → Lane t ws vs → m < length vs → Shows t (getD ws (2 * m) 0) (getD ws (2 * m + 1) 0) (getD vs m 2)
+  unfolding Lane
+  lane-at m h l = h m l
+
+  pub lane-add : (n z o v : ℕ) → length vs ≡ n → 2 * n + 2 ≤ length ws → Lane t ws vs → Shows t z o v
+      → Lane t (set (set ws (2 * n) z) (2 * n + 1) o) (vs ++ (v ∷ []))
+  unfolding Lane
+  lane-add n z o v e l h g m k = elim (decLe (suc m) n) [
+    | yes q ↦ rw (
+      getD-set-other (set ws (2 * n) z) (2 * n + 1) (2 * m) o 0 (λ x. omega arith),
+      getD-set-other (set ws (2 * n) z) (2 * n + 1) (2 * m + 1) o 0 (λ x. omega arith),
+      getD-set-other ws (2 * n) (2 * m) z 0 (λ x. omega arith),
+      getD-set-other ws (2 * n) (2 * m + 1) z 0 (λ x. omega arith),
+      List·getD-append vs (v ∷ []) 2 m (omega arith),
+    ) (h m (omega arith))
+    | no q ↦ (let s : m ≡ n = omega (arith, length-append vs (v ∷ [])) in
+        rw (
+          s,
+          getD-set-other (set ws (2 * n) z) (2 * n + 1) (2 * n) o 0 (λ x. omega arith),
+          getD-set-same ws (2 * n) z 0 (omega arith),
+          getD-set-same (set ws (2 * n) z) (2 * n + 1) o 0 (omega (arith, length-set ws (2 * n) z)),
+          getD-at vs v [] 2 n e,
+        ) g)
+  ]
+
+  pub lane-none : length vs ≡ 0 → Lane t ws vs
+  unfolding Lane
+  lane-none e m h = absurd (let z : ⊥ = omega arith in z)
+
+-- the halves of the kinds
+module _ (t z o : ℕ) where
+  pub start-1 : (k : ℕ) → k ≡ 1 → Shows t z o 2 → Shows t z o (evenGate k [])
+  unfolding evenGate
+  start-1 k e h = rw e h
+
+  pub start-2 : (k : ℕ) → k ≡ 2 → Shows t z o 1 → Shows t z o (evenGate k [])
+  unfolding evenGate andOf
+  start-2 k e h = rw e h
+
+  pub start-more : (k : ℕ) → 2 < k → k < 5 → Shows t z o 0 → Shows t z o (evenGate k [])
+  unfolding evenGate orOf andOf invertAll invert xorOf
+  start-more zero h g s = absurd (let z : ⊥ = omega arith in z)
+  start-more (suc zero) h g s = absurd (let z : ⊥ = omega arith in z)
+  start-more (suc (suc zero)) h g s = absurd (let z : ⊥ = omega arith in z)
+  start-more (suc (suc (suc zero))) h g s = s
+  start-more (suc (suc (suc (suc zero)))) h g s = s
+  start-more (suc (suc (suc (suc (suc k))))) h g s = absurd (let z : ⊥ = omega arith in z)
+
+module _ (t z o k v : ℕ) (ws : List ℕ) where
+  pub more-1 : k ≡ 1 → Shows t z o v → Shows t z o (evenGate k (v ∷ ws))
+  unfolding evenGate
+  more-1 e h = rw e h
+
+  pub more-2 : k ≡ 2 → ((w : ℕ) → w ≡ evenGate k ws → Shows t z o (andPair v w)) → Shows t z o (evenGate k (v ∷ ws))
+  unfolding evenGate andOf
+  more-2 e h = rw e (h (andOf ws) (rw e))
+
+  pub more-3 : k ≡ 3 → (orOf ws ≡ evenGate k ws → Shows t z o (orOf (v ∷ ws))) → Shows t z o (evenGate k (v ∷ ws))
+  unfolding evenGate
+  more-3 e h = rw e (h (rw e))
+
+  pub more-4 : k ≡ 4 → ((w : ℕ) → w ≡ evenGate k ws → Shows t z o (xorPair v w)) → Shows t z o (evenGate k (v ∷ ws))
+  unfolding evenGate xorOf
+  more-4 e h = rw e (h (xorOf ws) (rw e))
+
+by-test : {A : Type 0} (b : Bool) → (b ≡ true → A) → (b ≡ false → A) → A
+by-test true f g = f refl
+by-test false f g = g refl
+
+or-false : (b : Bool) → (b || false) ≡ b
+or-false true = refl
+or-false false = refl
+
+-- one lane is given a value
+module _ (s t z o w v : ℕ) (hs : s < 64) (ht : t < 64) (h : Shows s z o w) (free : s ≡ t → w ≡ 2) where
+  pub with-0 : v ≡ 0 → Shows s (bitOr z (1 * 2 ^ t % 0x10000000000000000)) o (cond (eqb s t) v w)
+  unfolding is0 is1
+  with-0 e = by-test (eqb s t)
+      (λ y. let x = free (eqb-true s t y) in rw (y, e) record {
+        zero? = rw (bit-or s z (1 * 2 ^ t % 0x10000000000000000), bit-one s t hs ht, y, h .zero?, x);
+        one? = rw (h .one?, x);
+      })
+      (λ y. rw y record { zero? = rw (bit-or s z (1 * 2 ^ t % 0x10000000000000000), bit-one s t hs ht, y) (or-false _ ∙ h .zero?); one? = h .one? })
+
+  pub with-1 : v ≡ 1 → Shows s z (bitOr o (1 * 2 ^ t % 0x10000000000000000)) (cond (eqb s t) v w)
+  unfolding is0 is1
+  with-1 e = by-test (eqb s t)
+      (λ y. let x = free (eqb-true s t y) in rw (y, e) record {
+        one? = rw (bit-or s o (1 * 2 ^ t % 0x10000000000000000), bit-one s t hs ht, y, h .one?, x);
+        zero? = rw (h .zero?, x);
+      })
+      (λ y. rw y record { one? = rw (bit-or s o (1 * 2 ^ t % 0x10000000000000000), bit-one s t hs ht, y) (or-false _ ∙ h .one?); zero? = h .zero? })
+
+-- a lane read out
+pub read-zero : (t z o v : ℕ) → Shows t z o v → z / 2 ^ t % 2 ≡ 1 → v ≡ 0
+unfolding bit is0
+read-zero t z o zero h e = refl
+read-zero t z o (suc v) h e = absurd (true≢false (sym (eq-eqb _ _ e) ∙ h .zero?))
+
+pub read-one : (t z o v : ℕ) → Shows t z o v → o / 2 ^ t % 2 ≡ 1 → v ≡ 1
+unfolding bit is1
+read-one t z o zero h e = absurd (true≢false (sym (eq-eqb _ _ e) ∙ h .one?))
+read-one t z o (suc zero) h e = refl
+read-one t z o (suc (suc v)) h e = absurd (true≢false (sym (eq-eqb _ _ e) ∙ h .one?))
+
+pub read-X : (t z o v : ℕ) → Shows t z o v → v < 3 → (z / 2 ^ t % 2 ≡ 1 → ⊥) → (o / 2 ^ t % 2 ≡ 1 → ⊥) → v ≡ 2
+unfolding bit is0 is1
+read-X t z o zero h l a b = absurd (a (eqb-true _ _ (h .zero?)))
+read-X t z o (suc zero) h l a b = absurd (b (eqb-true _ _ (h .one?)))
+read-X t z o (suc (suc zero)) h l a b = refl
+read-X t z o (suc (suc (suc v))) h l a b = absurd (let z : ⊥ = omega arith in z)

@@ -1,0 +1,3 @@
+-- Laws of lanes.
+pub mod Bits
+pub mod Laws

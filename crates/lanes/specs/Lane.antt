@@ -1,0 +1,34 @@
+-- What 64 lanes hold: lane t of two words is bit t of `zeros` (known to be 0) and of `ones` (known to be 1).
+use Prim.Native.Nat.{ℕ, zero, suc, _+_, _*_, _/_, _%_, _^_, _<_}
+use mathlib.Core.Path.{_≡_}
+use mathlib.Core.Bool.{Bool, true, false}
+use mathlib.Core.List.{List}
+use lib.Dec.{eqb}
+use lib.ListN.{getD, length}
+use Rattle.model.specs.Values.{X}
+use Rattle.lanes.specs.declared.Lanes.{Lanes}
+
+-- bit t of x
+unfoldable pub bit : ℕ → ℕ → Bool
+bit t x = eqb (x / 2 ^ t % 2) 1
+
+unfoldable pub is0 : ℕ → Bool
+is0 zero = true
+is0 (suc v) = false
+
+unfoldable pub is1 : ℕ → Bool
+is1 zero = false
+is1 (suc zero) = true
+is1 (suc (suc v)) = false
+
+-- lane t of the words z and o holds the value v: the bit of z says that v is 0, the bit of o that v is 1
+pub record Shows (t z o v : ℕ) : Type 0 where
+  pub zero? : bit t z ≡ is0 v
+  pub one? : bit t o ≡ is1 v
+
+abbrev pub Holds : ℕ → Lanes → ℕ → Type 0
+Holds t x v = Shows t (x .zeros) (x .ones) v
+
+-- lane t of a list of words, two to a place, holds the values vs at its first places
+unfoldable pub Lane : ℕ → List ℕ → List ℕ → Type 0
+Lane t words vs = (m : ℕ) → m < length vs → Shows t (getD words (2 * m) 0) (getD words (2 * m + 1) 0) (getD vs m X)

@@ -1,0 +1,150 @@
+// 64 values at once, one in each lane: two 64-bit words, known 0 and known 1. X is neither. Giving a value is an OR, AND is an AND of the
+// ones and an OR of the zeros, inverting swaps the words.
+ghost use mathlib.Core.Bool.{Bool, cond};
+ghost use mathlib.Core.List.{List, [], _∷_};
+ghost use mathlib.Core.Path.{_≡_};
+ghost use Prim.Native.Nat.{ℕ, _<_, _≤_, _/_, _%_};
+ghost use lib.Dec.{eqb};
+ghost use Rattle.model.specs.Values.{X, invert, andPair, xorPair, orOf, evenGate, invertIf, inverts};
+ghost use Rattle.lanes.specs.Lane.{Holds};
+
+pub struct Lanes {
+    pub zeros: u64,
+    pub ones: u64,
+}
+
+impl Lanes {
+    pub const X: Lanes = Lanes { zeros: 0, ones: 0 };
+
+    pub const ZERO: Lanes = Lanes {
+        zeros: 0xffff_ffff_ffff_ffff,
+        ones: 0,
+    };
+
+    pub const ONE: Lanes = Lanes {
+        zeros: 0,
+        ones: 0xffff_ffff_ffff_ffff,
+    };
+
+    // The same value in all lanes.
+    pub fn all(value: u8) -> Lanes
+        ensures { λ r. ⌜ ((t : ℕ) → t < 64 → Holds t r value) ⌝ }
+    {
+        match value {
+            0 => Lanes::ZERO,
+            1 => Lanes::ONE,
+            _ => Lanes::X,
+        }
+    }
+
+    pub fn invert(self) -> Lanes
+        ensures { λ r. ⌜ ((t v : ℕ) → Holds t self v → Holds t r (invert v)) ⌝ }
+    {
+        Lanes {
+            zeros: self.ones,
+            ones: self.zeros,
+        }
+    }
+
+    pub fn and(self, y: Lanes) -> Lanes
+        ensures { λ r. ⌜ ((t v w : ℕ) → Holds t self v → Holds t y w → Holds t r (andPair v w)) ⌝ }
+    {
+        Lanes {
+            zeros: self.zeros | y.zeros,
+            ones: self.ones & y.ones,
+        }
+    }
+
+    pub fn or(self, y: Lanes) -> Lanes
+        ensures { λ r. ⌜ ((t v : ℕ) (ws : List ℕ) → Holds t self v → Holds t y (orOf ws) → Holds t r (orOf (v ∷ ws))) ⌝ }
+    {
+        Lanes {
+            zeros: self.zeros & y.zeros,
+            ones: self.ones | y.ones,
+        }
+    }
+
+    pub fn xor(self, y: Lanes) -> Lanes
+        ensures { λ r. ⌜ ((t v w : ℕ) → Holds t self v → Holds t y w → Holds t r (xorPair v w)) ⌝ }
+    {
+        Lanes {
+            zeros: (self.zeros & y.zeros) | (self.ones & y.ones),
+            ones: (self.zeros & y.ones) | (self.ones & y.zeros),
+        }
+    }
+
+    // By the gate's kind: no pin yet, one pin more in front of the others, and the inversion at the end.
+    pub fn start(kind: u8) -> Lanes
+        requires { ⌜ (2 ≤ kind) × (kind ≤ 9) ⌝ }
+        ensures { λ r. ⌜ ((t : ℕ) → t < 64 → Holds t r (evenGate (kind / 2) [])) ⌝ }
+    {
+        match kind {
+            0..=3 => Lanes::X,
+            4..=5 => Lanes::ONE,
+            _ => Lanes::ZERO,
+        }
+    }
+
+    pub fn combine(self, kind: u8, rest: Lanes) -> Lanes
+        requires { ⌜ (2 ≤ kind) × (kind ≤ 9) ⌝ }
+        ensures { λ r. ⌜ ((t v : ℕ) (ws : List ℕ) → Holds t self v → Holds t rest (evenGate (kind / 2) ws) → Holds t r (evenGate (kind / 2) (v ∷ ws))) ⌝ }
+    {
+        match kind {
+            0..=3 => self,
+            4..=5 => self.and(rest),
+            6..=7 => self.or(rest),
+            _ => self.xor(rest),
+        }
+    }
+
+    pub fn finish(self, kind: u8) -> Lanes
+        ensures { λ r. ⌜ ((t v : ℕ) → Holds t self v → Holds t r (invertIf (inverts kind) v)) ⌝ }
+    {
+        if kind % 2 == 1 {
+            return self.invert();
+        }
+        self
+    }
+
+    // Stuck where `at` is known, at its value.
+    pub fn stuck(self, at: Lanes) -> Lanes
+        ensures { λ r. ⌜ ((t v : ℕ) (hit : Bool) (s : ℕ) → s < 2 → Holds t at (cond hit s X) → Holds t self v → Holds t r (cond hit s v)) ⌝ }
+    {
+        Lanes {
+            zeros: ((self.zeros | at.ones) ^ at.ones) | at.zeros,
+            ones: ((self.ones | at.zeros) ^ at.zeros) | at.ones,
+        }
+    }
+
+    // With lane t, which was X, at v.
+    pub fn with(self, t: usize, v: u8) -> Lanes
+        requires { ⌜ (t < 64) × (v < 2) ⌝ }
+        ensures { λ r. ⌜ ((s w : ℕ) → s < 64 → Holds s self w → (s ≡ t → w ≡ X) → Holds s r (cond (eqb s t) v w)) ⌝ }
+    {
+        let one: u64 = 1 << t;
+        if v == 0 {
+            return Lanes {
+                zeros: self.zeros | one,
+                ones: self.ones,
+            };
+        }
+        Lanes {
+            zeros: self.zeros,
+            ones: self.ones | one,
+        }
+    }
+
+    // The value in lane t.
+    pub fn lane(self, t: usize) -> u8
+        requires { ⌜ t < 64 ⌝ }
+        ensures { λ r. ⌜ ((v : ℕ) → v < 3 → Holds t self v → r ≡ v) ⌝ }
+    {
+        if (self.zeros >> t) % 2 == 1 {
+            return 0;
+        }
+        if (self.ones >> t) % 2 == 1 {
+            return 1;
+        }
+        2
+    }
+}
