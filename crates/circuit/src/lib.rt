@@ -7,7 +7,7 @@ ghost use lib.ListN.{length};
 ghost use lib.Dec.{leb};
 ghost use Rattle.lists.specs.Scan.{_else_, anyBelow, firstAnswer};
 ghost use Rattle.model.specs.Inputs.{N, kind, pinCount, outputMark, spareByte, pinLine, isGate};
-ghost use Rattle.model.specs.Refusals.{refuse, row1, pinsFit, unusedNamed, spareUsed, misnames, rows2to5, row6, circuitRows};
+ghost use Rattle.model.specs.Refusals.{refuse, row1, pinsFit, unusedNamed, strayBytes, misnames, rows2to5, row6, circuitRows};
 ghost use Rattle.circuit.specs.Check.{refusalOf, SizesOf};
 
 // Whether a rule is broken, and if so its number and position.
@@ -159,7 +159,7 @@ fn limit_of(k: u8, lines: usize, n: usize) -> usize
 // Rows 4 and 5 of a record with so many pins.
 fn check_pins(c: &[u8], lines: usize, n: usize, k: u8, pins: usize) -> Check
     requires { ⌜ (12 * n + 12 ≤ length (now c)) × (lines ≡ N (now c)) × (k ≡ kind (now c) n) × (pins ≡ pinCount (now c) n) × (pins ≤ 4) ⌝ }
-    ensures { λ r. ⌜ refusalOf r ≡ (refuse (spareUsed (now (c .entry)) n) 4 n else refuse (misnames (now (c .entry)) n) 5 n) ⌝ }
+    ensures { λ r. ⌜ refusalOf r ≡ (refuse (strayBytes (now (c .entry)) n) 4 n else refuse (misnames (now (c .entry)) n) 5 n) ⌝ }
 {
     let spare = either(
         either(1 < mark_of(c, n), 0 < spare_of(c, n)),
@@ -201,7 +201,7 @@ fn check_records(c: &[u8], lines: usize) -> Check
     Check::Passed
 }
 
-fn one_if(b: bool) -> usize
+pub fn one_if(b: bool) -> usize
     ensures { λ r. ⌜ (r ≡ cond b 1 0) × (r ≤ 1) ⌝ }
 {
     if b { 1 } else { 0 }

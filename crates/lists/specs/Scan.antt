@@ -1,5 +1,5 @@
 -- Scans over the numbers below a bound: the first that passes a test, whether any does, how many do, which do; and lists made of them.
--- Each recurses on the bound and looks at the highest number last, as a loop does.
+-- All but `tabulate` look at the highest number last, as a loop does.
 use Prim.Native.Nat.{ℕ, zero, suc, _+_}
 use mathlib.Core.Bool.{Bool, false, cond, _||_}
 use mathlib.Core.List.{List, [], _∷_, _++_}
@@ -30,7 +30,7 @@ unfoldable pub firstPair : (ℕ → ℕ → Bool) → ℕ → ℕ → Option (�
 firstPair P zero b = none
 firstPair P (suc u) b = firstPair P u b else pairWith u (first (P u) b)
 
--- the first of the answers g 0, .. , g (n - 1) that is one
+-- the first of g 0, .. , g (n - 1) that is not none
 unfoldable pub firstAnswer : {A : Type 0} → (ℕ → Option A) → ℕ → Option A
 firstAnswer g zero = none
 firstAnswer g (suc n) = firstAnswer g n else g n

@@ -11,11 +11,11 @@ use native.Mathlib.Decide.{decLe}
 use native.Mathlib.Nat.{div-add-mod', zero-mul}
 use borrow.Author.Tests.{eqb-true, leb-true, leb-false, ltb-true, ltb-false, not-false, ne-eqb}
 use Rattle.lists.specs.Scan.{firstAnswer}
+use Rattle.model.specs.Inputs.{N, kind, pinCount, pinLine, isFlipFlop, isGate, I, F, O, L, Fault, faultCount, faultAt}
+use Rattle.model.specs.Refusals.{refuse, row1, pinsFit, strayBytes, misnamed, misnames, rows2to5, row6, circuitRows, row7, row8, row9, faultFits, row10, row11, row12, row13, row14, gradeRefusal, chooseRefusal}
+use Rattle.model.specs.Accepted.{ValidCircuit, ValidTest, ValidFault}
 use Rattle.lists.proofs.Tests.{and-left, and-right, or-left-false, or-right-false}
 use Rattle.lists.proofs.Scan.{else-none, firstAnswer-none, anyBelow-false}
-use Rattle.model.specs.Inputs.{N, kind, pinCount, pinLine, isFlipFlop, isGate, I, F, O, L, Fault, faultCount, faultAt}
-use Rattle.model.specs.Accepted.{ValidCircuit, ValidTest, ValidFault}
-use Rattle.model.specs.Refusals.{refuse, row1, pinsFit, spareUsed, misnamed, misnames, rows2to5, row6, circuitRows, row7, row8, row9, faultFits, row10, row11, row12, row13, row14, gradeRefusal, chooseRefusal}
 use Rattle.model.proofs.Total.{TotalRow, bit-total}
 use Rattle.model.proofs.Implication.{gate-kind}
 use Rattle.model.proofs.Sound.{Accepted}
@@ -36,7 +36,7 @@ unfolding rows2to5
 fits c n e =
     let a = else-none (refuse (ltb 9 (kind c n)) 2 n) _ e in
     let b = else-none (refuse (not (pinsFit (kind c n) (pinCount c n))) 3 n) _ (a .1) in
-    let d = else-none (refuse (spareUsed c n) 4 n) _ (b .1) in
+    let d = else-none (refuse (strayBytes c n) 4 n) _ (b .1) in
     record {
       low = ltb-false 9 (kind c n) (refuse-none _ 2 n (a .0));
       count = not-false _ (refuse-none _ 3 n (b .0));

@@ -9,17 +9,17 @@ use lib.Pow.{pow-mono}
 use native.Mathlib.Omega.{arith}
 use borrow.Author.Tests.{ltb-true, leb-true}
 use Rattle.lists.specs.Scan.{countBelow}
-use Rattle.lists.proofs.Tests.{and-left, cond-cases, clash}
-use Rattle.lists.proofs.Scan.{countBelow-bound}
 use Rattle.model.specs.Inputs.{N, flipFlopLine, F, L, inputsAt, Fault, planCount, planPair}
 use Rattle.model.specs.Values.{hasConflict, someOppose}
 use Rattle.model.specs.Simulation.{lineValues, outputs, freeOutputs}
 use Rattle.model.specs.Starts.{freeBits, startCount}
-use Rattle.model.specs.Sequences.{takes, takeNext, takenOf, taken, ending, endOf, countEnding, survives, differing, clashing}
+use Rattle.model.specs.Sequences.{takes, takeNext, takenOf, taken, ending, endOf, countEnding, endsSurviving, endsDiffering, endsClashing}
 use Rattle.model.specs.Grade.{placed, counted, grade}
 use Rattle.model.specs.Promises.{carriesCounts, InBounds}
+use Rattle.lists.proofs.Tests.{and-left, cond-cases, clash}
+use Rattle.lists.proofs.Scan.{countBelow-bound}
 use Rattle.model.proofs.Runs.{flipFlopLine-holds}
-use Rattle.model.proofs.Stages.{grade-cases}
+use Rattle.model.proofs.Stages.{before-case, after-case, grade-cases}
 
 -- ---- a sequence ends in one of three ways
 module _ (c t : List ℕ) (f : Fault) where
@@ -27,9 +27,9 @@ module _ (c t : List ℕ) (f : Fault) where
   unfolding ending
   ending-bound pairs b u zero state = omega arith
   ending-bound pairs b u (suc left) state =
-      cond-cases (λ (e : ℕ). e ≤ 2) (someOppose (freeOutputs c t u) (outputs c f (lineValues c f (inputsAt c t u) state))) differing _
+      cond-cases (λ (e : ℕ). e ≤ 2) (someOppose (freeOutputs c t u) (outputs c f (lineValues c f (inputsAt c t u) state))) endsDiffering _
       (λ _. omega arith)
-      (λ _. cond-cases (λ (e : ℕ). e ≤ 2) (hasConflict _) clashing _ (λ _. omega arith) (λ _. ending-bound pairs b (suc u) left _))
+      (λ _. cond-cases (λ (e : ℕ). e ≤ 2) (hasConflict _) endsClashing _ (λ _. omega arith) (λ _. ending-bound pairs b (suc u) left _))
 
   endOf-bound : (pairs : List (ℕ × ℕ)) (b : ℕ) → endOf c t f pairs b ≤ 2
   unfolding endOf
@@ -48,7 +48,7 @@ module _ (c t : List ℕ) (f : Fault) where
   counts-sum g h (suc n) = omega (arith, counts-sum g h n, three-ways (g n) (h n))
 
   endings-sum : (pairs : List (ℕ × ℕ))
-      → countEnding c t f pairs differing + countEnding c t f pairs clashing + countEnding c t f pairs survives ≡ 2 ^ length pairs
+      → countEnding c t f pairs endsDiffering + countEnding c t f pairs endsClashing + countEnding c t f pairs endsSurviving ≡ 2 ^ length pairs
   unfolding countEnding
   endings-sum pairs = counts-sum (λ b. endOf c t f pairs b) (λ b. endOf-bound pairs b) (2 ^ length pairs)
 
@@ -105,9 +105,9 @@ module _ (c t : List ℕ) (f : Fault) where
         m = omega arith;
         time = omega arith;
         line = omega arith;
-        differing = count-bound pairs differing k n l;
-        clashing = count-bound pairs clashing k n l;
-        surviving = count-bound pairs survives k n l;
+        differing = count-bound pairs endsDiffering k n l;
+        clashing = count-bound pairs endsClashing k n l;
+        surviving = count-bound pairs endsSurviving k n l;
         start = h;
         sum = λ _. endings-sum pairs;
       }
@@ -117,14 +117,16 @@ module _ (c t : List ℕ) (f : Fault) where
   unfolding startCount
   bounds p k n l h =
       grade-cases (InBounds k) c t f p k
+      (before-case (InBounds k) c t f
       (λ u m d. placed-bounds k 1 u m (omega arith) (omega arith) refl (omega (arith, d .row)) (omega (arith, d .place)))
       (λ _ _. placed-bounds k 5 0 0 (omega arith) (omega arith) refl (omega arith) (omega arith))
       (λ u i d. pair u i (d .row) (d .place))
-      (λ u i d. pair u i (d .row) (d .place))
+      (λ u i d. pair u i (d .row) (d .place)))
+      (after-case (InBounds k) c t f p k
       (λ _. counted-bounds p k 3 0 h (omega arith) (omega arith) (omega arith))
       (λ _ _. counted-bounds p k 4 0 h (omega arith) (omega arith) (omega arith))
       (λ s e d. counted-bounds p k 6 s h (omega arith) (omega arith) (omega (arith, d .below, power-bound (freeBits c) k (leb-true _ _ e) h)))
-      (λ _. counted-bounds p k 7 0 h (omega arith) (omega arith) (omega arith))
+      (λ _. counted-bounds p k 7 0 h (omega arith) (omega arith) (omega arith)))
     where
       pair : (u i : ℕ) → u < L c t → i < F c → InBounds k (placed 2 u (flipFlopLine c i))
       pair u i r q = placed-bounds k 2 u (flipFlopLine c i) (omega arith) (omega arith) refl (omega arith) (omega (arith, flipFlopLine-holds c i q .0))

@@ -10,13 +10,14 @@ use native.Mathlib.Omega.{arith}
 use native.Mathlib.Decide.{decLe}
 use borrow.Author.Tests.{lt-ltb}
 use Rattle.lists.specs.Field.{word16, bytes16}
-use Rattle.lists.proofs.Field.{word-back}
 use Rattle.model.specs.Inputs.{F, L, Fault, planCount, planPair}
 use Rattle.model.specs.Sequences.{takes, takeNext, takenOf, taken}
-use Rattle.model.specs.Grade.{Verdict, beforeStage5}
+use Rattle.model.specs.Grade.{Verdict, beforeStage5, placed, counted, grade}
 use Rattle.model.specs.Choose.{nextPair, withPair, bestPairs, unlessDecided, chosen, planBytes}
 use Rattle.model.specs.Promises.{WellChosen}
+use Rattle.lists.proofs.Field.{word-back}
 use Rattle.model.proofs.Sound.{takes-named}
+use Rattle.model.proofs.Stages.{before-case, after-case, grade-cases}
 use Rattle.model.proofs.Best.{nextPair-best, nextPair-none, nextPair-takes}
 
 -- ---- a plan's records read back
@@ -142,13 +143,35 @@ module _ (c t : List ℕ) (f : Fault) where
   unfolding chosen unlessDecided
   chosen-undecided k e = rw e
 
+  chosen-decided : (k : ℕ) (v : Verdict) → beforeStage5 c t f ≡ some v → chosen c t f k ≡ []
+  unfolding chosen unlessDecided
+  chosen-decided k v e = rw e
+
+  -- m is 0 before stage 5, and after it the number of pairs taken
+  m-before : (v : Verdict) → beforeStage5 c t f ≡ some v → v .m ≡ 0
+  unfolding placed
+  m-before = before-case (λ (v : Verdict). v .m ≡ 0) c t f (λ _ _ _. refl) (λ _ _. refl) (λ _ _ _. refl) (λ _ _ _. refl)
+
+  m-after : (p : List ℕ) (k : ℕ) → beforeStage5 c t f ≡ none → grade c t f p k .m ≡ length (taken c t f p k)
+  unfolding counted
+  m-after p k = after-case (λ (v : Verdict). v .m ≡ length (taken c t f p k)) c t f p k (λ _. refl) (λ _ _. refl) (λ _ _ _. refl) (λ _. refl)
+
+  carried : (k : ℕ) → taken c t f (planBytes (chosen c t f k)) k ≡ chosen c t f k → grade c t f (planBytes (chosen c t f k)) k .m ≡ length (chosen c t f k)
+  carried k e =
+      grade-cases (λ (v : Verdict). v .m ≡ length (chosen c t f k)) c t f (planBytes (chosen c t f k)) k
+      (λ v d. m-before v d ∙ sym (ap length (chosen-decided k v d))) (λ d. m-after _ k d ∙ ap length e)
+
   pub well-chosen : (k : ℕ) → L c t ≤ 65536 → F c ≤ 65536 → WellChosen c t f k
   unfolding chosen Chain
   well-chosen k a b =
       let h : Chain (chosen c t f k) × (length (chosen c t f k) ≤ k) = chosen-chain k (beforeStage5 c t f) in
+      let whole : taken c t f (planBytes (chosen c t f k)) k ≡ chosen c t f k =
+      taken-plan (chosen c t f k) k (h .0) (chain-fields (chosen c t f k) a b (h .0)) (h .1) in
       record {
-        taken = taken-plan (chosen c t f k) k (h .0) (chain-fields (chosen c t f k) a b (h .0)) (h .1);
+        taken = whole;
         best = λ n l u i e. nextPair-best c t f (take n (chosen c t f k)) _ (h .0 n l) u i e;
+        decided = chosen-decided k;
+        carried = carried k whole;
         stops = λ e l u i.
             let same : chosen c t f k ≡ bestPairs c t f k = chosen-undecided k e in
             rw same (nextPair-none c t f (bestPairs c t f k) (bestPairs-short k (omega (arith, ap length same))) u i);

@@ -2,6 +2,7 @@
 pub mod Computed
 pub mod Specimens
 pub mod Vectors
+pub mod Answers
 pub mod Allows
 pub mod Total
 pub mod Implication

@@ -12,7 +12,7 @@ use Rattle.model.specs.Starts.{freeBits, startCount, differs}
 use Rattle.model.specs.Grade.{Verdict, placed, counted, grade}
 use Rattle.model.specs.Promises.{EveryDiffers, LowestNever, Promise}
 use Rattle.model.proofs.Sound.{Accepted, stage1-sound, stage2-sound, stage3-sound, stage4-sound, stage5-sound}
-use Rattle.model.proofs.Stages.{grade-cases}
+use Rattle.model.proofs.Stages.{before-case, after-case, grade-cases}
 
 -- ---- the three ways to keep the promise
 module _ (c t : List ℕ) (f : Fault) (k : ℕ) where
@@ -56,14 +56,17 @@ pub promise : (c t : List ℕ) (f : Fault) → Accepted c t f → (p : List ℕ)
     → Promise c t f k (grade c t f p k .verdict) (grade c t f p k .start)
 unfolding placed counted
 promise c t f a p k =
-    grade-cases (λ (v : Verdict). Promise c t f k (v .verdict) (v .start)) c t f p k
+    let Q : Verdict → Type 0 = λ v. Promise c t f k (v .verdict) (v .start) in
+    grade-cases Q c t f p k
+    (before-case Q c t f
     (λ u n h. every-differs c t f k 1 0 (omega arith) (omega arith) (λ s _. stage1-sound c t f a u n (h .row) (h .place) (h .passes) s))
     (λ n e. one-never c t f k 5 0 0 (omega arith) (omega arith) (start-zero c) (stage2-sound c t f a n e 0)
     (λ g. absurd (let z : ⊥ = omega arith in z)))
     (λ u i h. every-differs c t f k 2 0 (omega arith) (omega arith) (λ s _. stage3-sound c t f a u i (h .row) (h .place) (h .passes) s))
-    (λ u i h. every-differs c t f k 2 0 (omega arith) (omega arith) (λ s _. stage4-sound c t f a u i (h .row) (h .place) (h .passes) s))
+    (λ u i h. every-differs c t f k 2 0 (omega arith) (omega arith) (λ s _. stage4-sound c t f a u i (h .row) (h .place) (h .passes) s)))
+    (after-case Q c t f p k
     (λ e. every-differs c t f k 3 0 (omega arith) (omega arith) (λ s _. stage5-sound c t f a p k e s))
     (λ _ e. every-differs c t f k 4 0 (omega arith) (omega arith) (λ s h. not-false _ (e s h)))
     (λ s _ h. one-never c t f k 6 s s (omega arith) (omega arith) (h .below) (not-true _ (h .passes))
     (λ _. record { state = h .below; never = not-true _ (h .passes); lowest = λ r q. not-false _ (h .fails r q) }))
-    (λ e. undecided c t f k 0 (leb-false (freeBits c) k e))
+    (λ e. undecided c t f k 0 (leb-false (freeBits c) k e)))

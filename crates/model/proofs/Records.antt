@@ -8,12 +8,12 @@ use lib.Seq.{drop-append-le, take-append-le}
 use native.Mathlib.Omega.{arith}
 use native.Mathlib.Nat.{mul-le-mul-left}
 use Rattle.lists.specs.Field.{word16, bytes16, overwritten}
-use Rattle.lists.proofs.Scan.{length-gather, gather-part}
-use Rattle.lists.proofs.Field.{word-back, byte-of-part, word-of-part}
 use Rattle.model.specs.Inputs.{faultCount, faultAt}
 use Rattle.model.specs.Refusals.{unlessRefused, gradeRefusal}
 use Rattle.model.specs.Grade.{Verdict, grade, recordBytes, recordAt, gradeBytes, gradeArea}
 use Rattle.model.specs.Promises.{InBounds, recordPart}
+use Rattle.lists.proofs.Scan.{length-gather, gather-part}
+use Rattle.lists.proofs.Field.{word-back, byte-of-part, word-of-part}
 
 length-record : (v : Verdict) → length (recordBytes v) ≡ 16
 unfolding recordBytes bytes16

@@ -7,10 +7,11 @@ use lib.ListN.{getD, length, set, replicate}
 use lib.Dec.{eqb}
 use native.Mathlib.Omega.{arith}
 use Rattle.lists.specs.Scan.{anyBelow, select}
-use Rattle.lists.proofs.Tests.{or-left-false, or-right-false}
 use Rattle.model.specs.Values.{X, isSpecified, giveRow, opposes, someOppose}
 use Rattle.model.specs.Starts.{bits}
-use Rattle.model.specs.Expansion.{countX, countOpen, whereX}
+use Rattle.model.specs.Implication.{whereX}
+use Rattle.model.specs.Expansion.{countX, countOpen}
+use Rattle.lists.proofs.Tests.{or-left-false, or-right-false}
 use Rattle.model.proofs.Allows.{Allows, AllowsRow}
 use Rattle.model.proofs.Total.{TotalRow, bit-total, nil-total, cons-total}
 use Rattle.model.proofs.Implication.{give-allows}

@@ -55,7 +55,7 @@ unfolding nextState
 length-nextState c f vs = length-map (flipFlops c) (λ n. pinSeen c f vs n 1) ∙ length-flipFlops c
 
 -- ---- values below a line
-length-valuesBelow : (c : List ℕ) (f : Fault) (inputs state : List ℕ) (n : ℕ) → length (valuesBelow c f inputs state n) ≡ n
+pub length-valuesBelow : (c : List ℕ) (f : Fault) (inputs state : List ℕ) (n : ℕ) → length (valuesBelow c f inputs state n) ≡ n
 unfolding valuesBelow
 length-valuesBelow c f inputs state zero = refl
 length-valuesBelow c f inputs state (suc n) = rw length-append (omega (arith, length-valuesBelow c f inputs state n))

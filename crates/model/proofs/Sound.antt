@@ -11,16 +11,17 @@ use native.Mathlib.Decide.{decLe}
 use native.Mathlib.Nat.{le-div-iff-mul-le}
 use borrow.Author.Tests.{eqb-true, eq-eqb, ltb-true, ltb-false, lt-ltb}
 use Rattle.lists.specs.Scan.{anyBelow}
-use Rattle.lists.proofs.Tests.{and-left, and-right, and-fails, or-cases, cond-cases, clash, is-false, is-true}
-use Rattle.lists.proofs.Scan.{anyBelow-false, anyBelow-none, countBelow-positive}
 use Rattle.model.specs.Inputs.{N, pinLine, isOutput, flipFlopLine, outputLines, I, F, L, inputsAt, Fault, planCount, planPair}
 use Rattle.model.specs.Accepted.{ValidCircuit}
 use Rattle.model.specs.Values.{X, giveRow, someOppose}
 use Rattle.model.specs.Simulation.{lineValues, outputs, nextState, powerUp, stateAt, valuesAt, outputsAt, plainState, plainValues, plainOutputs, freeValues, freeOutputs}
 use Rattle.model.specs.Starts.{bits, startingState, differs}
-use Rattle.model.specs.Expansion.{countOpen, nothing, nsv, openPlaces, nout, impliedAt, marked, extra, tried, bothMarked, alone, written, rowAfter, opposedWrite, stateRow}
-use Rattle.model.specs.Sequences.{takes, takeNext, takenOf, taken, sequenceRow, ending, endOf, countEnding, survives}
+use Rattle.model.specs.Implication.{nothing, impliedAt, marked, extra}
+use Rattle.model.specs.Expansion.{countOpen, nsv, openPlaces, nout, tried, bothMarked, alone, written, rowAfter, opposedWrite, stateRow}
+use Rattle.model.specs.Sequences.{takes, takeNext, takenOf, taken, sequenceRow, ending, endOf, countEnding, endsSurviving}
 use Rattle.model.specs.Grade.{opposedAt}
+use Rattle.lists.proofs.Tests.{and-left, and-right, and-fails, or-cases, cond-cases, clash, is-false, is-true}
+use Rattle.lists.proofs.Scan.{anyBelow-false, anyBelow-none, countBelow-positive}
 use Rattle.model.proofs.Allows.{Allows, AllowsRow, outputs-allows, nextState-allows, lineValues-allows, stateAt-allows, valuesAt-allows, outputsAt-allows}
 use Rattle.model.proofs.Total.{Total, TotalRow, take-total, drop-total, total-allows, totalRow-allows, total-bit, total-cases, getD-total, allows-equal}
 use Rattle.model.proofs.Implication.{Settled, implied-allows, no-conflict, someOppose-allows}
@@ -254,26 +255,26 @@ module _ (c t : List ℕ) (f : Fault) (a : Accepted c t f) where
           giveRow-allows _ _ _ ih (rw (← at) (extra-allows (q .0) (q .1) _ (n .0) (total-allows _ b))))
           (λ _. ih))
 
-      ending-survives : (pairs : List (ℕ × ℕ)) → Named c t pairs → (left u : ℕ) (now : List ℕ) → u + left ≡ L c t → AllowsRow now (stateAt c t f st u)
-          → ending c t f pairs (runNumber pairs) u left now ≡ survives
+      ending-endsSurviving : (pairs : List (ℕ × ℕ)) → Named c t pairs → (left u : ℕ) (now : List ℕ) → u + left ≡ L c t → AllowsRow now (stateAt c t f st u)
+          → ending c t f pairs (runNumber pairs) u left now ≡ endsSurviving
       unfolding ending
-      ending-survives pairs n zero u now e h = refl
-      ending-survives pairs n (suc left) u now e h =
+      ending-endsSurviving pairs n zero u now e h = refl
+      ending-endsSurviving pairs n (suc left) u now e h =
           let v : AllowsRow (lineValues c f (inputsAt c t u) now) (valuesAt c t f st u) = values-step u now h in
           let row : AllowsRow (cond (ltb (suc u) (L c t)) (sequenceRow c t f pairs (runNumber pairs) (suc u)) (nothing c)) (stateAt c t f st (suc u)) =
           cond-cases (λ (row : List ℕ). AllowsRow row (stateAt c t f st (suc u))) _ _ _
           (λ g. sequenceRow-allows pairs (suc u) n (ltb-true _ _ g)) (λ _. nothing-allows (suc u) (omega arith)) in
           let m : AllowsRow (giveRow (nextState c f (lineValues c f (inputsAt c t u) now)) _) (stateAt c t f st (suc u)) =
           giveRow-allows _ _ _ (next-step u _ v) row in
-          rw (no-opposing u _ (omega arith) v, no-conflict _ _ m) (ending-survives pairs n left (suc u) _ (omega arith) m)
+          rw (no-opposing u _ (omega arith) v, no-conflict _ _ m) (ending-endsSurviving pairs n left (suc u) _ (omega arith) m)
 
-      some-survives : (pairs : List (ℕ × ℕ)) → Named c t pairs → eqb (countEnding c t f pairs survives) 0 ≡ true → ⊥
+      some-endsSurviving : (pairs : List (ℕ × ℕ)) → Named c t pairs → eqb (countEnding c t f pairs endsSurviving) 0 ≡ true → ⊥
       unfolding countEnding endOf
-      some-survives pairs n e =
-          let none : countEnding c t f pairs survives ≡ 0 = eqb-true _ _ e in
-          let one : 0 < countEnding c t f pairs survives =
-          countBelow-positive (λ b. eqb (endOf c t f pairs b) survives) _ (runNumber pairs) (runNumber-less pairs n)
-          (eq-eqb _ _ (ending-survives pairs n (L c t) 0 _ (omega arith) (sequenceRow-allows pairs 0 n (a .units)))) in
+      some-endsSurviving pairs n e =
+          let none : countEnding c t f pairs endsSurviving ≡ 0 = eqb-true _ _ e in
+          let one : 0 < countEnding c t f pairs endsSurviving =
+          countBelow-positive (λ b. eqb (endOf c t f pairs b) endsSurviving) _ (runNumber pairs) (runNumber-less pairs n)
+          (eq-eqb _ _ (ending-endsSurviving pairs n (L c t) 0 _ (omega arith) (sequenceRow-allows pairs 0 n (a .units)))) in
           let z : ⊥ = omega arith in
           z
 
@@ -306,9 +307,9 @@ module _ (c t : List ℕ) (f : Fault) (a : Accepted c t f) where
   pub stage4-sound : (u i : ℕ) → u < L c t → i < F c → opposedWrite c t f u i ≡ true → (s : ℕ) → differs c t f s ≡ true
   stage4-sound u i h k e s = is-true _ (λ d. no-opposed-write (startingState c s) (start-whole s) (start-each s) (alike s d) u i h k e)
 
-  pub stage5-sound : (p : List ℕ) (k : ℕ) → eqb (countEnding c t f (taken c t f p k) survives) 0 ≡ true → (s : ℕ) → differs c t f s ≡ true
+  pub stage5-sound : (p : List ℕ) (k : ℕ) → eqb (countEnding c t f (taken c t f p k) endsSurviving) 0 ≡ true → (s : ℕ) → differs c t f s ≡ true
   stage5-sound p k e s =
-      is-true _ (λ d. some-survives (startingState c s) (start-whole s) (start-each s) (alike s d) (taken c t f p k) (taken-named c t f p k) e)
+      is-true _ (λ d. some-endsSurviving (startingState c s) (start-whole s) (start-each s) (alike s d) (taken c t f p k) (taken-named c t f p k) e)
 
   -- ---- stage 2: with no place open at unit 0, or no flip-flop, no starting state differs
   openPlaces-zero : (k u v : ℕ) → openPlaces c t f u k ≡ 0 → u ≤ v → v < u + k → countOpen (freeOutputs c t v) (plainOutputs c t f v) ≡ 0

@@ -1,15 +1,19 @@
--- The theorems, for every input. What each says is defined in specs/Promises.
+-- The theorems, for every accepted job. What each says is defined in specs/Promises.
 use mathlib.Core.Path.{_≡_, sym, ap, _∙_}
 use Prim.Native.Nat.{ℕ, _<_}
 use mathlib.Core.List.{List}
 use mathlib.Core.Option.{none}
 use lib.ListN.{length}
 use native.Mathlib.Omega.{arith}
-use Rattle.model.specs.Inputs.{Fault, faultCount, faultAt}
-use Rattle.model.specs.Refusals.{gradeRefusal, chooseRefusal}
+use mathlib.Core.Bool.{false}
+use borrow.Author.Tests.{ne-eqb}
+use Rattle.model.specs.Inputs.{N, Fault, faultCount, faultAt}
+use Rattle.model.specs.Refusals.{circuitRows, gradeRefusal, chooseRefusal}
+use Rattle.model.specs.Accepted.{ValidCircuit}
+use Rattle.model.specs.Simulation.{noFault, isStuck}
 use Rattle.model.specs.Grade.{grade, recordBytes, recordAt, gradeArea}
 use Rattle.model.specs.Promises.{Demand3, InBounds, recordPart, WellChosen}
-use Rattle.model.proofs.Accepted.{GradeJob, gradeJob, accepted, ChooseJob, chooseJob}
+use Rattle.model.proofs.Accepted.{validCircuit, GradeJob, gradeJob, accepted, ChooseJob, chooseJob}
 use Rattle.model.proofs.Promise.{promise}
 use Rattle.model.proofs.Bounds.{bounds}
 use Rattle.model.proofs.Records.{area-part, area-record}
@@ -51,3 +55,10 @@ pub chosen-well : (c t fs : List ℕ) (k work result : ℕ) → chooseRefusal c 
 chosen-well c t fs k work result e =
     let job : ChooseJob c t = chooseJob c t fs k work result e in
     well-chosen c t (faultAt fs 0) k (omega (arith, job .test .most)) (omega (arith, job .circuit .flipFlops))
+
+-- the fault-free circuit has no stuck line or pin: `noFault` names no line of a circuit that is accepted
+pub fault-free : (c : List ℕ) → circuitRows c ≡ none → (n pin : ℕ) → n < N c → isStuck noFault n pin ≡ false
+unfolding isStuck noFault
+fault-free c e n pin h =
+    let valid : ValidCircuit c = validCircuit c e in
+    rw (ne-eqb 65536 n (λ q. (let z : ⊥ = omega (arith, valid .lines) in z)))

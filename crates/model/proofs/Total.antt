@@ -7,9 +7,9 @@ use lib.ListN.{getD, length, take, drop}
 use native.Mathlib.Omega.{arith}
 use borrow.Author.Tests.{eqb-true, leb-true}
 use Rattle.lists.specs.Scan.{tabulate}
-use Rattle.lists.proofs.Tests.{and-right, cond-cases}
 use Rattle.model.specs.Values.{X, isSpecified, invert, andPair, andOf, invertAll, orOf, xorPair, xorOf, evenGate, invertIf, inverts, gate}
 use Rattle.model.specs.Implication.{others, andImplies, xorImplies, evenImplies, implies}
+use Rattle.lists.proofs.Tests.{and-right, cond-cases}
 use Rattle.model.proofs.Allows.{Allows, AllowsRow, X-allows, invert-allows, andOf-allows, xorOf-allows, xorPair-allows, invertAll-allows}
 
 unfoldable pub Total : ℕ → Type 0

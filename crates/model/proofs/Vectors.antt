@@ -1,16 +1,12 @@
 -- Small jobs on which misreadings of document 01 give another result, computed. The expected results are those of an independent grader,
--- written from document 01 in another language; above each job stand the misreadings that it tells apart and no job before it does.
+-- written from document 01 in another language; above each job stand misreadings that it tells apart.
 use mathlib.Core.Path.{_≡_, refl}
 use Prim.Native.Nat.{ℕ}
-use mathlib.Core.List.{List, [], _∷_, _++_}
-use lib.ListN.{replicate}
+use mathlib.Core.List.{List, [], _∷_}
 use Rattle.model.specs.Inputs.{Fault}
-use Rattle.model.specs.Refusals.{done, refused}
-use Rattle.model.specs.Simulate.{simulateAnswer, simulateArea}
-use Rattle.model.specs.Grade.{grade, gradeAnswer, gradeArea}
-use Rattle.model.specs.Choose.{chosen, planBytes, chooseAnswer, chooseArea}
-use Rattle.model.specs.Group.{groupAnswer, groupArea}
-use Rattle.model.specs.Specimens.{circuitOf, specimenB, stuckAt, eightFields}
+use Rattle.model.specs.Grade.{grade}
+use Rattle.model.specs.Choose.{chosen, planBytes}
+use Rattle.model.specs.Specimens.{circuitOf, stuckAt, eightFields}
 use Rattle.model.proofs.Computed.{computes}
 
 -- what Grade gives for one fault
@@ -35,11 +31,12 @@ pub graded :
     -- the stuck value behind a stuck flip-flop line; sequences get only the pair's own bit; F < k asked instead of F <= k; highest start
     × (fieldsOf ((0, 0, []) ∷ (1, 0, 5 ∷ []) ∷ (1, 1, 4 ∷ []) ∷ (1, 0, 3 ∷ []) ∷ (4, 0, 1 ∷ 3 ∷ []) ∷ (4, 0, 0 ∷ 2 ∷ []) ∷ [])
     (0 ∷ 1 ∷ 1 ∷ []) (stuckAt 1 0 1) ((1, 1) ∷ (2, 0) ∷ []) 3 ≡ 6 ∷ 2 ∷ 0 ∷ 0 ∷ 1 ∷ 2 ∷ 1 ∷ 0 ∷ [])
-    -- NAND implies as AND; the first record copied to all faults; a later clash wins over an earlier differ; clash checked before differ;
+    -- NAND implies as AND; a later clash wins over an earlier differ; clash checked before differ;
     -- k limits the pairs looked at; k limits the units of taken pairs; k limit ignored; stage 5 stops at the first pair passed over
     × (fieldsOf ((1, 0, 1 ∷ []) ∷ (7, 1, 0 ∷ 0 ∷ []) ∷ (5, 0, 0 ∷ 1 ∷ 1 ∷ []) ∷ (0, 0, []) ∷ (5, 1, 3 ∷ 1 ∷ []) ∷ (0, 0, [])
     ∷ (1, 0, 2 ∷ []) ∷ (1, 0, 4 ∷ []) ∷ (7, 0, 3 ∷ 4 ∷ []) ∷ [])
     (1 ∷ 0 ∷ 0 ∷ 1 ∷ 0 ∷ 0 ∷ []) (stuckAt 4 1 1) ((0, 1) ∷ (1, 2) ∷ (1, 2) ∷ (0, 0) ∷ (0, 2) ∷ []) 2 ≡ 3 ∷ 2 ∷ 0 ∷ 0 ∷ 4 ∷ 0 ∷ 0 ∷ 0 ∷ [])
+    -- the same job's second fault
     × (fieldsOf ((1, 0, 1 ∷ []) ∷ (7, 1, 0 ∷ 0 ∷ []) ∷ (5, 0, 0 ∷ 1 ∷ 1 ∷ []) ∷ (0, 0, []) ∷ (5, 1, 3 ∷ 1 ∷ []) ∷ (0, 0, [])
     ∷ (1, 0, 2 ∷ []) ∷ (1, 0, 4 ∷ []) ∷ (7, 0, 3 ∷ 4 ∷ []) ∷ [])
     (1 ∷ 0 ∷ 0 ∷ 1 ∷ 0 ∷ 0 ∷ []) (stuckAt 1 1 0) ((0, 1) ∷ (1, 2) ∷ (1, 2) ∷ (0, 0) ∷ (0, 2) ∷ []) 2 ≡ 5 ∷ 0 ∷ 0 ∷ 0 ∷ 0 ∷ 0 ∷ 0 ∷ 0 ∷ [])
@@ -54,6 +51,7 @@ pub graded :
     × (fieldsOf ((0, 0, []) ∷ (1, 1, 8 ∷ []) ∷ (1, 1, 8 ∷ []) ∷ (1, 0, 7 ∷ []) ∷ (1, 1, 6 ∷ []) ∷ (9, 1, 1 ∷ 2 ∷ [])
     ∷ (7, 0, 5 ∷ 3 ∷ 0 ∷ []) ∷ (6, 0, 3 ∷ 0 ∷ []) ∷ (8, 1, 0 ∷ 1 ∷ 4 ∷ 4 ∷ []) ∷ [])
     (0 ∷ 1 ∷ 0 ∷ 1 ∷ []) (stuckAt 7 0 0) [] 3 ≡ 7 ∷ 0 ∷ 0 ∷ 0 ∷ 0 ∷ 0 ∷ 1 ∷ 0 ∷ [])
+    -- the same job's second fault
     × (fieldsOf ((0, 0, []) ∷ (1, 1, 8 ∷ []) ∷ (1, 1, 8 ∷ []) ∷ (1, 0, 7 ∷ []) ∷ (1, 1, 6 ∷ []) ∷ (9, 1, 1 ∷ 2 ∷ [])
     ∷ (7, 0, 5 ∷ 3 ∷ 0 ∷ []) ∷ (6, 0, 3 ∷ 0 ∷ []) ∷ (8, 1, 0 ∷ 1 ∷ 4 ∷ 4 ∷ []) ∷ [])
     (0 ∷ 1 ∷ 0 ∷ 1 ∷ []) (stuckAt 0 0 1) [] 3 ≡ 5 ∷ 0 ∷ 0 ∷ 0 ∷ 0 ∷ 0 ∷ 0 ∷ 0 ∷ [])
@@ -128,7 +126,7 @@ pub pairs-chosen :
     (pairsOf ((0, 0, []) ∷ (1, 0, 2 ∷ []) ∷ (1, 0, 6 ∷ []) ∷ (1, 0, 5 ∷ []) ∷ (1, 0, 7 ∷ []) ∷ (7, 0, 3 ∷ 2 ∷ []) ∷ (4, 1, 4 ∷ 5 ∷ [])
     ∷ (7, 0, 0 ∷ 2 ∷ []) ∷ [])
     (1 ∷ 1 ∷ []) (stuckAt 4 1 1) 2 ≡ (1, 2) ∷ (0, 0) ∷ [])
-    -- Choose clears the area up to 4k; Choose: Nout left out; Choose ranks by Nout(u-1); Choose writes at most one pair a unit; Choose
+    -- Choose: Nout left out; Choose ranks by Nout(u-1); Choose writes at most one pair a unit; Choose
     -- admits only Nout(u) > 0; Choose: Nout reversed; Choose: Nout after Nsv; stage 5 does not ask that the pair's bit is X in the state
     -- list (the extras are still asked); stage 5 asks Nout(u) > 0; stage 5 takes a pair whose bit is specified in the state list; a stuck
     -- pin shows its value to every reader of that line
@@ -170,70 +168,3 @@ pub pairs-chosen :
     (1 ∷ 0 ∷ 0 ∷ []) (stuckAt 4 2 0) 3 ≡ (0, 0) ∷ (0, 1) ∷ (2, 0) ∷ [])
 unfolding computes
 pairs-chosen = (refl, refl, refl, refl, refl, refl, refl, refl, refl, refl, refl, refl)
-
--- what calls return, accepted and refused
-pub answered :
-    -- row 3 before 2 (kind above 9 has no right count); rows 2 to 5: byte position; rows 2 to 5: position 0
-    (gradeAnswer (circuitOf ((0, 0, []) ∷ (1, 1, 2 ∷ []) ∷ []) ++ (10 ∷ 9 ∷ 0 ∷ 0 ∷ 0 ∷ 0 ∷ 1 ∷ 0 ∷ 0 ∷ 0 ∷ 0 ∷ 0 ∷ [])) (0 ∷ 1 ∷ []) (0 ∷ 0 ∷ 0 ∷ 1 ∷ []) (0 ∷ 0 ∷ 0 ∷ 0 ∷ []) 2 200 50 ≡ refused 2 2)
-    -- row 2 over all records first; rows 2 to 5 each over all records; row 4: byte 3 not looked at
-    × (gradeAnswer ((0 ∷ 0 ∷ 0 ∷ 1 ∷ 0 ∷ 0 ∷ 0 ∷ 0 ∷ 0 ∷ 0 ∷ 0 ∷ 0 ∷ []) ++ circuitOf ((10, 1, 2 ∷ []) ∷ (4, 0, 0 ∷ 1 ∷ []) ∷ [])) (0 ∷ 1 ∷ []) (0 ∷ 0 ∷ 0 ∷ 1 ∷ []) (0 ∷ 0 ∷ 0 ∷ 0 ∷ []) 2 200 50 ≡ refused 4 0)
-    -- row 2 over all records first; rows 2 to 5 each over all records; rows 2 to 5: byte position; rows 2 to 5: position 0
-    × (simulateAnswer (circuitOf ((0, 0, []) ∷ (1, 1, 2 ∷ 0 ∷ []) ∷ (10, 0, 0 ∷ 1 ∷ []) ∷ [])) (0 ∷ 1 ∷ []) (0 ∷ 0 ∷ 0 ∷ 1 ∷ []) 200 4 ≡ refused 3 1)
-    -- row 4 before 3; rows 2 to 5: byte position; rows 2 to 5: position 0; row 3 allows one pin for kinds 4 to 9
-    × (gradeAnswer (circuitOf ((0, 0, []) ∷ (1, 1, 2 ∷ []) ∷ []) ++ (4 ∷ 1 ∷ 0 ∷ 0 ∷ 0 ∷ 0 ∷ 1 ∷ 0 ∷ 0 ∷ 0 ∷ 0 ∷ 0 ∷ [])) (0 ∷ 1 ∷ []) (0 ∷ 0 ∷ 0 ∷ 1 ∷ []) (0 ∷ 0 ∷ 0 ∷ 0 ∷ []) 2 200 50 ≡ refused 3 2)
-    -- row 5 before 4; rows 2 to 5: byte position; rows 2 to 5: position 0; row 4: byte 3 not looked at
-    × (simulateAnswer (circuitOf ((0, 0, []) ∷ (1, 1, 2 ∷ []) ∷ []) ++ (4 ∷ 2 ∷ 0 ∷ 1 ∷ 0 ∷ 0 ∷ 2 ∷ 0 ∷ 0 ∷ 0 ∷ 0 ∷ 0 ∷ [])) (0 ∷ 1 ∷ []) (0 ∷ 0 ∷ 0 ∷ 1 ∷ []) 200 4 ≡ refused 4 2)
-    -- rows 2 to 5: byte position; rows 2 to 5: position 0; a gate may name itself; a gate may name any line
-    × (gradeAnswer (circuitOf ((0, 0, []) ∷ (1, 1, 2 ∷ []) ∷ (4, 0, 1 ∷ 2 ∷ []) ∷ [])) (0 ∷ 1 ∷ []) (0 ∷ 0 ∷ 0 ∷ 1 ∷ []) (0 ∷ 0 ∷ 0 ∷ 0 ∷ []) 2 200 50 ≡ refused 5 2)
-    -- rows 2 to 5: byte position; rows 2 to 5: position 0; row 5 allows line N
-    × (gradeAnswer (circuitOf ((0, 0, []) ∷ (1, 1, 3 ∷ []) ∷ (4, 0, 0 ∷ 1 ∷ []) ∷ [])) (0 ∷ 1 ∷ []) (0 ∷ 0 ∷ 0 ∷ 1 ∷ []) (0 ∷ 0 ∷ 0 ∷ 0 ∷ []) 2 200 50 ≡ refused 5 1)
-    -- Simulate takes several faults; Simulate with two faults: position 1; rows 10 and 9 change places; Simulate: 10 before 9
-    × (simulateAnswer specimenB (0 ∷ 1 ∷ []) (0 ∷ 0 ∷ 0 ∷ 1 ∷ 9 ∷ 0 ∷ 0 ∷ 0 ∷ []) 200 4 ≡ refused 9 0)
-    -- Choose takes several faults; rows 10 and 9 change places; Choose: 10 before 9
-    × (chooseAnswer specimenB (0 ∷ 1 ∷ []) (0 ∷ 0 ∷ 7 ∷ 1 ∷ 0 ∷ 0 ∷ 0 ∷ 1 ∷ []) 2 200 10 ≡ refused 9 0)
-    -- row 10: byte position; row 10: position 0; rows 11 and 10 change places; rows 12 and 10 change places
-    × (gradeAnswer specimenB (0 ∷ 1 ∷ []) (0 ∷ 0 ∷ 0 ∷ 1 ∷ 9 ∷ 0 ∷ 0 ∷ 0 ∷ []) (0 ∷ []) 2 200 50 ≡ refused 10 1)
-    -- rows 12 and 11 change places; rows 12 and 10 change places
-    × (gradeAnswer specimenB (0 ∷ 1 ∷ []) (0 ∷ 0 ∷ 0 ∷ 1 ∷ []) (0 ∷ 0 ∷ []) 13 200 50 ≡ refused 11 0)
-    -- row 12 allows 13; row 12: position k; rows 13 and 12 change places; rows 14 and 12 change places
-    × (gradeAnswer specimenB (0 ∷ 1 ∷ []) (0 ∷ 0 ∷ 0 ∷ 1 ∷ []) (0 ∷ 0 ∷ 0 ∷ 0 ∷ []) 13 0 50 ≡ refused 12 0)
-    -- row 13: coefficient of N one less; row 13: coefficient of O one less; row 13: coefficient of F one less; row 13: coefficient of 8
-    -- one less; row 13 without L; rows 14 and 13 change places; rows 14 and 12 change places
-    × (gradeAnswer specimenB (0 ∷ 1 ∷ []) (0 ∷ 0 ∷ 0 ∷ 1 ∷ []) (0 ∷ 0 ∷ 0 ∷ 0 ∷ []) 2 67 0 ≡ refused 13 0)
-    -- row 13: coefficient of N one less; row 13: coefficient of O one less; row 13: coefficient of F one less; row 13: coefficient of 8
-    -- one less; row 13 without L; row 13 asked of Grade only; rows 14 and 13 change places; rows 14 and 12 change places
-    × (chooseAnswer specimenB (0 ∷ 1 ∷ []) (0 ∷ 0 ∷ 0 ∷ 1 ∷ []) 2 67 0 ≡ refused 13 0)
-    -- row 14: choose asks one byte less; row 14: Choose asks only what it writes
-    × (chooseAnswer specimenB (0 ∷ 1 ∷ []) (0 ∷ 0 ∷ 0 ∷ 0 ∷ []) 2 200 7 ≡ refused 14 0)
-    -- row 15: multiple of 16 not asked; rows 14 and 15 change places
-    × (groupAnswer (0 ∷ 0 ∷ 0 ∷ 0 ∷ 0 ∷ 0 ∷ 0 ∷ 0 ∷ 0 ∷ 0 ∷ 0 ∷ 0 ∷ 0 ∷ 0 ∷ 0 ∷ 0 ∷ 0 ∷ []) 0 ≡ refused 15 0)
-    -- row 14: group asks one byte less
-    × (groupAnswer (0 ∷ 0 ∷ 0 ∷ 0 ∷ 0 ∷ 0 ∷ 0 ∷ 0 ∷ 0 ∷ 0 ∷ 0 ∷ 0 ∷ 0 ∷ 0 ∷ 0 ∷ 0 ∷ 0 ∷ 0 ∷ 0 ∷ 0 ∷ 0 ∷ 0 ∷ 0 ∷ 0 ∷ 0 ∷ 0 ∷ 0 ∷ 0 ∷ 0 ∷ 0 ∷ 0 ∷ 0 ∷ 0 ∷ 0 ∷ 0 ∷ 0 ∷ 0 ∷ 0 ∷ 0 ∷ 0 ∷ 0 ∷ 0 ∷ 0 ∷ 0 ∷ 0 ∷ 0 ∷ 0 ∷ 0 ∷ []) 5 ≡ refused 14 0)
-    -- Grade refuses an empty fault list; row 14: grade asks one byte more
-    × (gradeAnswer specimenB (0 ∷ 1 ∷ []) [] (0 ∷ 0 ∷ 0 ∷ 0 ∷ []) 2 200 0 ≡ done 0)
-    -- a flip-flop may not name itself; Simulate needs a fault; row 13: coefficient of N one more; row 13: coefficient of O one more; row
-    -- 13: coefficient of F one more; row 13: coefficient of 8 one more; row 13: 4N inside the product with L; row 13: one byte more than
-    -- the need asked; row 14: simulate asks one byte more; row 14: Simulate asks L x N
-    × (simulateAnswer (circuitOf ((0, 0, []) ∷ (1, 1, 1 ∷ []) ∷ (1, 1, 3 ∷ []) ∷ (6, 0, 0 ∷ 0 ∷ []) ∷ [])) (1 ∷ 0 ∷ []) [] 112 4 ≡ done 4)
-unfolding computes
-answered = (refl, refl, refl, refl, refl, refl, refl, refl, refl, refl, refl, refl, refl, refl, refl, refl, refl, refl, refl)
-
--- what result areas hold afterwards
-pub held :
-    -- Simulate writes by line, then time; a stuck flip-flop pin fixes the plain state bit at unit 0
-    (simulateArea (circuitOf ((0, 1, []) ∷ (1, 1, 0 ∷ []) ∷ [])) (0 ∷ 0 ∷ []) (1 ∷ 0 ∷ 1 ∷ 1 ∷ []) 72 (replicate 7 170)
-    ≡ 0 ∷ 2 ∷ 0 ∷ 1 ∷ 170 ∷ 170 ∷ 170 ∷ [])
-    -- bytes past the result cleared; 16-bit fields high byte first; the first record copied to all faults
-    × (gradeArea (circuitOf ((1, 0, 1 ∷ []) ∷ (9, 0, 0 ∷ 0 ∷ 0 ∷ []) ∷ (0, 1, []) ∷ [])) (0 ∷ 1 ∷ 0 ∷ 1 ∷ 0 ∷ []) (0 ∷ 0 ∷ 1 ∷ 0 ∷ 2 ∷ 0 ∷ 0 ∷ 0 ∷ []) [] 2 152 (replicate 34 170)
-    ≡ 5 ∷ 0 ∷ 0 ∷ 0 ∷ 0 ∷ 0 ∷ 0 ∷ 0 ∷ 0 ∷ 0 ∷ 0 ∷ 0 ∷ 0 ∷ 0 ∷ 0 ∷ 0 ∷ 1 ∷ 0 ∷ 1 ∷ 0 ∷ 2 ∷ 0 ∷ 0 ∷ 0 ∷ 0 ∷ 0 ∷ 0 ∷ 0 ∷ 0 ∷ 0 ∷ 0 ∷ 0 ∷ 170 ∷ 170 ∷ [])
-    -- Choose clears the area up to 4k; Choose admits only Nout(u) > 0
-    × (chooseArea (circuitOf ((1, 0, 1 ∷ []) ∷ (0, 0, []) ∷ (6, 1, 1 ∷ 0 ∷ []) ∷ (1, 0, 3 ∷ []) ∷ [])) (1 ∷ 1 ∷ []) (2 ∷ 0 ∷ 1 ∷ 0 ∷ []) 6 104 (replicate 27 170)
-    ≡ (0 ∷ 0 ∷ 0 ∷ 0 ∷ 0 ∷ 0 ∷ 1 ∷ 0 ∷ 1 ∷ 0 ∷ 1 ∷ 0 ∷ []) ++ replicate 15 170)
-    -- Group leaves out the verdict, or the line; Group compares low bytes only; Group writes high byte first
-    × (groupArea (6 ∷ 2 ∷ 1 ∷ 1 ∷ 1 ∷ 0 ∷ 2 ∷ 1 ∷ 1 ∷ 0 ∷ 1 ∷ 0 ∷ 0 ∷ 2 ∷ 1 ∷ 0 ∷ 7 ∷ 2 ∷ 0 ∷ 0 ∷ 1 ∷ 0 ∷ 1 ∷ 2 ∷ 0 ∷ 2 ∷ 1 ∷ 2 ∷ 0 ∷ 0 ∷ 1 ∷ 1 ∷ 5 ∷ 2 ∷ 0 ∷ 0 ∷ 1 ∷ 0 ∷ 1 ∷ 2 ∷ 0 ∷ 2 ∷ 1 ∷ 2 ∷ 0 ∷ 0 ∷ 1 ∷ 1 ∷ 6 ∷ 2 ∷ 1 ∷ 1 ∷ 1 ∷ 2 ∷ 2 ∷ 1 ∷ 1 ∷ 0 ∷ 1 ∷ 0 ∷ 0 ∷ 2 ∷ 1 ∷ 0 ∷ []) (replicate 10 170)
-    ≡ 0 ∷ 0 ∷ 1 ∷ 0 ∷ 2 ∷ 0 ∷ 3 ∷ 0 ∷ 170 ∷ 170 ∷ [])
-    -- a refusal that writes
-    × (gradeArea ((0 ∷ 0 ∷ 0 ∷ 1 ∷ 0 ∷ 0 ∷ 0 ∷ 0 ∷ 0 ∷ 0 ∷ 0 ∷ 0 ∷ []) ++ circuitOf ((10, 1, 2 ∷ []) ∷ (4, 0, 0 ∷ 1 ∷ []) ∷ [])) (0 ∷ 1 ∷ []) (0 ∷ 0 ∷ 0 ∷ 1 ∷ []) (0 ∷ 0 ∷ 0 ∷ 0 ∷ []) 2 200 (replicate 50 170)
-    ≡ replicate 50 170)
-unfolding computes
-held = (refl, refl, refl, refl, refl)

@@ -9,7 +9,8 @@ use Rattle.lists.specs.Field.{bytes16, overwritten}
 use Rattle.model.specs.Inputs.{F, L, Fault, faultAt}
 use Rattle.model.specs.Refusals.{Answer, answer, unlessRefused, chooseRefusal}
 use Rattle.model.specs.Values.{isSpecified}
-use Rattle.model.specs.Expansion.{nsv, nout, extra}
+use Rattle.model.specs.Implication.{extra}
+use Rattle.model.specs.Expansion.{nsv, nout}
 use Rattle.model.specs.Sequences.{takes}
 use Rattle.model.specs.Grade.{Verdict, beforeStage5}
 
@@ -43,17 +44,17 @@ module _ (c t : List ℕ) (f : Fault) where
       (smaller u v
       (smaller i j false)))))
 
-  -- the best so far, and (u, i)
+  -- the better of the best so far and (u, i), if stage 5 would take (u, i) next
   unfoldable pub bestOf : List (ℕ × ℕ) → Option (ℕ × ℕ) → ℕ → ℕ → Option (ℕ × ℕ)
   bestOf pairs none u i = cond (takes c t f pairs u i) (some (u, i)) none
   bestOf pairs (some q) u i = cond (takes c t f pairs u i && better u i (q .0) (q .1)) (some (u, i)) (some q)
 
-  -- and the flip-flops below i at u
+  -- the same over the flip-flops below i at u
   unfoldable pub bestAt : List (ℕ × ℕ) → ℕ → ℕ → Option (ℕ × ℕ) → Option (ℕ × ℕ)
   bestAt pairs u zero best = best
   bestAt pairs u (suc i) best = bestOf pairs (bestAt pairs u i best) u i
 
-  -- the best of the units below u
+  -- the best over the units below u
   unfoldable pub bestBelow : List (ℕ × ℕ) → ℕ → Option (ℕ × ℕ)
   bestBelow pairs zero = none
   bestBelow pairs (suc u) = bestAt pairs u (F c) (bestBelow pairs u)

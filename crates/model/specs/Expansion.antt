@@ -1,14 +1,14 @@
--- Nsv and Nout, marks and extras of a pair (u, i) of a time unit and a flip-flop, and the state list of stages 3 and 4.
--- An extra is a row of F values, X where it says nothing; the state list has such a row for each unit.
+-- Nsv and Nout, and stages 3 and 4 over the pairs (u, i) of a time unit and a flip-flop: which are tried, what is marked, and the state
+-- list, which has a row of F values for each unit.
 use Prim.Native.Nat.{ℕ, zero, suc, _+_, _-_}
-use mathlib.Core.Bool.{Bool, false, cond, not, _&&_, _||_}
+use mathlib.Core.Bool.{Bool, false, cond, not, _&&_}
 use mathlib.Core.List.{List, [], _∷_}
-use lib.ListN.{getD, set, replicate}
+use lib.ListN.{getD}
 use lib.Dec.{eqb, ltb}
-use Rattle.model.specs.Inputs.{pinLine, flipFlopLine, F, L, Fault}
-use Rattle.model.specs.Values.{X, isSpecified, invert, giveRow, hasConflict, someOppose}
-use Rattle.model.specs.Simulation.{outputs, nextState, plainState, plainValues, plainOutputs, freeOutputs}
-use Rattle.model.specs.Implication.{implied}
+use Rattle.model.specs.Inputs.{F, L, Fault}
+use Rattle.model.specs.Values.{X, isSpecified, invert, giveRow, someOppose}
+use Rattle.model.specs.Simulation.{plainState, plainOutputs, freeOutputs}
+use Rattle.model.specs.Implication.{nothing, marked, extra}
 
 unfoldable pub countX : List ℕ → ℕ
 countX [] = 0
@@ -19,16 +19,6 @@ unfoldable pub countOpen : List ℕ → List ℕ → ℕ
 countOpen [] bs = 0
 countOpen (a ∷ row) [] = 0
 countOpen (a ∷ row) (b ∷ bs) = cond (isSpecified a && eqb b X) 1 0 + countOpen row bs
-
--- a row that says nothing
-unfoldable pub nothing : List ℕ → List ℕ
-nothing c = replicate (F c) X
-
--- of the second row, the places that are X in the first
-unfoldable pub whereX : List ℕ → List ℕ → List ℕ
-whereX [] bs = []
-whereX (a ∷ row) [] = []
-whereX (a ∷ row) (b ∷ bs) = cond (eqb a X) b X ∷ whereX row bs
 
 module _ (c t : List ℕ) (f : Fault) where
   -- Nsv(u): unknown state bits
@@ -43,23 +33,6 @@ module _ (c t : List ℕ) (f : Fault) where
   unfoldable pub nout : ℕ → ℕ
   nout u = openPlaces u (L c t - u)
 
-  -- the line values of unit u, once flip-flop i's pin line is given the value α there
-  unfoldable pub impliedAt : ℕ → ℕ → ℕ → List ℕ
-  impliedAt u i α = implied c f (plainValues c t f u) (pinLine c (flipFlopLine c i) 1) α
-
-  -- Value α is marked if there is a conflict, or if an output then opposes a specified fault-free value of unit u - 1.
-  unfoldable pub marked : ℕ → ℕ → ℕ → Bool
-  marked zero i α = false
-  marked (suc u) i α =
-      let values = impliedAt u i α in
-      hasConflict values || someOppose (freeOutputs c t u) (outputs c f values)
-
-  -- Else extra(u, i, α) is every (j, β), unknown in the plain state at u, whose pin shows β now. At u = 0 it is (i, α).
-  unfoldable pub extra : ℕ → ℕ → ℕ → List ℕ
-  extra zero i α = set (nothing c) i α
-  extra (suc u) i α =
-      cond (marked (suc u) i α) (nothing c) (whereX (plainState c t f (suc u)) (nextState c f (impliedAt u i α)))
-
   -- stage 3 tries the pair: u from 1, where the bit is X and Nout(u - 1) > 0
   unfoldable pub tried : ℕ → ℕ → Bool
   tried zero i = false
@@ -67,15 +40,15 @@ module _ (c t : List ℕ) (f : Fault) where
 
   -- both values are marked
   unfoldable pub bothMarked : ℕ → ℕ → Bool
-  bothMarked u i = tried u i && marked u i 0 && marked u i 1
+  bothMarked u i = tried u i && marked c t f u i 0 && marked c t f u i 1
 
   -- α alone is marked
   unfoldable pub alone : ℕ → ℕ → ℕ → Bool
-  alone u i α = tried u i && marked u i α && not (marked u i (invert α))
+  alone u i α = tried u i && marked c t f u i α && not (marked c t f u i (invert α))
 
   -- where α alone is marked, stage 4 writes the other value's extra
   unfoldable pub written : ℕ → ℕ → List ℕ
-  written u i = cond (alone u i 0) (extra u i 1) (cond (alone u i 1) (extra u i 0) (nothing c))
+  written u i = cond (alone u i 0) (extra c t f u i 1) (cond (alone u i 1) (extra c t f u i 0) (nothing c))
 
   -- the state list at u, which begins as the faulty plain state, after the writes of the flip-flops below i
   unfoldable pub rowAfter : ℕ → ℕ → List ℕ

@@ -13,7 +13,7 @@ use Rattle.model.specs.Values.{opposes}
 use Rattle.model.specs.Simulation.{noFault, shown, plainValues, freeValues}
 use Rattle.model.specs.Starts.{freeBits, startCount, differs}
 use Rattle.model.specs.Expansion.{nsv, nout, bothMarked, opposedWrite}
-use Rattle.model.specs.Sequences.{taken, countEnding, survives, differing, clashing}
+use Rattle.model.specs.Sequences.{taken, countEnding, endsSurviving, endsDiffering, endsClashing}
 
 pub record Verdict : Type 0 where
   pub verdict : ℕ
@@ -68,15 +68,15 @@ module _ (c t : List ℕ) (f : Fault) where
           m = length pairs;
           time = 0;
           line = 0;
-          differing = countEnding c t f pairs differing;
-          clashing = countEnding c t f pairs clashing;
-          surviving = countEnding c t f pairs survives;
+          differing = countEnding c t f pairs endsDiffering;
+          clashing = countEnding c t f pairs endsClashing;
+          surviving = countEnding c t f pairs endsSurviving;
           start = start;
         }
 
-    -- None survives: verdict 3.
+    -- None endsSurviving: verdict 3.
     unfoldable pub stage5 : Option Verdict
-    stage5 = cond (eqb (countEnding c t f (taken c t f p k) survives) 0) (some (counted 3 0)) none
+    stage5 = cond (eqb (countEnding c t f (taken c t f p k) endsSurviving) 0) (some (counted 3 0)) none
 
     -- the first that never differs gives verdict 6 with its number, none gives verdict 4
     unfoldable pub fromStart : Option ℕ → Verdict

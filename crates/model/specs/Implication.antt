@@ -1,13 +1,13 @@
 -- Implication in one unit: a line is given a value, and two passes add what follows. Down, a gate whose value is known tells what its pins
 -- must be; up, each gate is evaluated. A stuck line says nothing of its gate, and a stuck pin nothing of the line behind it.
 use Prim.Native.Nat.{ℕ, zero, suc, _/_}
-use mathlib.Core.Bool.{cond, not, _&&_}
+use mathlib.Core.Bool.{Bool, false, cond, not, _&&_, _||_}
 use mathlib.Core.List.{List, [], _∷_}
-use lib.ListN.{getD, set}
+use lib.ListN.{getD, set, replicate}
 use lib.Dec.{eqb}
-use Rattle.model.specs.Inputs.{N, kind, pinCount, pinLine, isGate, Fault}
-use Rattle.model.specs.Values.{X, isSpecified, invert, andOf, invertAll, xorPair, xorOf, invertIf, inverts, gate, give}
-use Rattle.model.specs.Simulation.{isStuck, pinsSeen}
+use Rattle.model.specs.Inputs.{N, kind, pinCount, pinLine, isGate, flipFlopLine, F, Fault}
+use Rattle.model.specs.Values.{X, isSpecified, invert, andOf, invertAll, xorPair, xorOf, invertIf, inverts, gate, someOppose, give, hasConflict}
+use Rattle.model.specs.Simulation.{isStuck, pinsSeen, outputs, nextState, plainState, plainValues, freeOutputs}
 
 -- the list without place i
 unfoldable pub others : List ℕ → ℕ → List ℕ
@@ -75,3 +75,32 @@ module _ (c : List ℕ) (f : Fault) where
   -- the implication of one value: give the line the value, then make two passes
   unfoldable pub implied : List ℕ → ℕ → ℕ → List ℕ
   implied values line v = up (N c) (down (N c) (giveLine values line v))
+
+-- a row that says nothing
+unfoldable pub nothing : List ℕ → List ℕ
+nothing c = replicate (F c) X
+
+-- of the second row, the places that are X in the first
+unfoldable pub whereX : List ℕ → List ℕ → List ℕ
+whereX [] bs = []
+whereX (a ∷ row) [] = []
+whereX (a ∷ row) (b ∷ bs) = cond (eqb a X) b X ∷ whereX row bs
+
+-- for a pair (u, i) of a time unit and a flip-flop; an extra is a row of F values, X where it says nothing
+module _ (c t : List ℕ) (f : Fault) where
+  -- the line values of unit u, once flip-flop i's pin line is given the value α there
+  unfoldable pub impliedAt : ℕ → ℕ → ℕ → List ℕ
+  impliedAt u i α = implied c f (plainValues c t f u) (pinLine c (flipFlopLine c i) 1) α
+
+  -- Value α is marked if there is a conflict, or if an output then opposes a specified fault-free value of unit u - 1.
+  unfoldable pub marked : ℕ → ℕ → ℕ → Bool
+  marked zero i α = false
+  marked (suc u) i α =
+      let values = impliedAt u i α in
+      hasConflict values || someOppose (freeOutputs c t u) (outputs c f values)
+
+  -- Else extra(u, i, α) is every (j, β), unknown in the plain state at u, whose pin shows β now. At u = 0 it is (i, α).
+  unfoldable pub extra : ℕ → ℕ → ℕ → List ℕ
+  extra zero i α = set (nothing c) i α
+  extra (suc u) i α =
+      cond (marked (suc u) i α) (nothing c) (whereX (plainState c t f (suc u)) (nextState c f (impliedAt u i α)))

@@ -1,17 +1,18 @@
--- What is promised of the result bytes, for every accepted job. The theorems are in proofs/Theorems.
+-- What is promised of the bytes that Grade writes, for every accepted job, and of the pairs that Choose writes. The theorems are in
+-- proofs/Theorems.
 use mathlib.Core.Path.{_≡_}
 use mathlib.Core.Logic.{_↔_}
 use Prim.Native.Nat.{ℕ, _+_, _*_, _^_, _≤_, _<_}
 use mathlib.Core.Bool.{Bool, true, false, _||_}
-use mathlib.Core.List.{List}
-use mathlib.Core.Option.{none}
+use mathlib.Core.List.{List, []}
+use mathlib.Core.Option.{none, some}
 use lib.ListN.{getD, length, take, drop}
 use lib.Dec.{eqb}
 use Rattle.model.specs.Inputs.{Fault, faultCount, faultAt}
 use Rattle.model.specs.Refusals.{gradeRefusal}
 use Rattle.model.specs.Starts.{freeBits, startCount, differs}
 use Rattle.model.specs.Sequences.{takes, taken}
-use Rattle.model.specs.Grade.{Verdict, recordAt, beforeStage5}
+use Rattle.model.specs.Grade.{Verdict, recordAt, beforeStage5, grade}
 use Rattle.model.specs.Choose.{better, chosen, planBytes}
 
 -- every starting state of the circuit with the fault differs
@@ -49,7 +50,7 @@ Demand3 c t fs p k work old new =
 abbrev pub carriesCounts : ℕ → Bool
 carriesCounts v = eqb v 3 || eqb v 4 || eqb v 6 || eqb v 7
 
--- Every verdict lies between 1 and 7, every field fits its 8 or 16 bits, and where a record carries counts they sum to 2^m.
+-- Every verdict lies between 1 and 7, m is at most k, every field fits its 8 or 16 bits, and where a record carries counts they sum to 2^m.
 pub record InBounds (k : ℕ) (v : Verdict) : Type 0 where
   pub low : 1 ≤ v .verdict
   pub high : v .verdict ≤ 7
@@ -68,9 +69,12 @@ abbrev pub recordPart : List ℕ → ℕ → List ℕ
 recordPart area j = take 16 (drop (16 * j) area)
 
 -- Of the pairs that Choose writes. Every one is taken by Grade with the same k and just these pairs as the plan. None that could be taken in
--- its place is better. Choose stops early only when no pair could be taken.
+-- its place is better. None is written for verdicts 1, 2, 5. Grade's record carries their number as m. Choose stops early only when no pair
+-- could be taken.
 pub record WellChosen (c t : List ℕ) (f : Fault) (k : ℕ) : Type 0 where
   pub taken : taken c t f (planBytes (chosen c t f k)) k ≡ chosen c t f k
   pub best : (n : ℕ) → n < length (chosen c t f k) → (u i : ℕ) → takes c t f (take n (chosen c t f k)) u i ≡ true
       → better c t f u i (getD (chosen c t f k) n (0, 0) .0) (getD (chosen c t f k) n (0, 0) .1) ≡ false
+  pub decided : (v : Verdict) → beforeStage5 c t f ≡ some v → chosen c t f k ≡ []
+  pub carried : grade c t f (planBytes (chosen c t f k)) k .m ≡ length (chosen c t f k)
   pub stops : beforeStage5 c t f ≡ none → length (chosen c t f k) < k → (u i : ℕ) → takes c t f (chosen c t f k) u i ≡ false

@@ -30,15 +30,15 @@ unfoldable pub unusedNamed : List ℕ → ℕ → ℕ → Bool
 unusedNamed c n i = leb (pinCount c n) i && ltb 0 (pinLine c n (i + 1))
 
 -- 4 | byte 2 above 1, byte 3 or an unused pin not 0
-unfoldable pub spareUsed : List ℕ → ℕ → Bool
-spareUsed c n = ltb 1 (outputMark c n) || ltb 0 (spareByte c n) || anyBelow (λ i. unusedNamed c n i) 4
+unfoldable pub strayBytes : List ℕ → ℕ → Bool
+strayBytes c n = ltb 1 (outputMark c n) || ltb 0 (spareByte c n) || anyBelow (λ i. unusedNamed c n i) 4
 
 -- pin i + 1 breaks the naming rule or is N or more: a gate (kinds 2 to 9) names only lower lines; a flip-flop names any line, itself
 -- included
 unfoldable pub misnamed : List ℕ → ℕ → ℕ → Bool
 misnamed c n i = leb (cond (isGate c n) n (N c)) (pinLine c n (i + 1))
 
--- 5 | a used pin does
+-- 5 | a used pin breaks the naming rule or is N or more
 unfoldable pub misnames : List ℕ → ℕ → Bool
 misnames c n = anyBelow (λ i. misnamed c n i) (pinCount c n)
 
@@ -47,7 +47,7 @@ unfoldable pub rows2to5 : List ℕ → ℕ → Refusal
 rows2to5 c n =
     refuse (ltb 9 (kind c n)) 2 n
     else refuse (not (pinsFit (kind c n) (pinCount c n))) 3 n
-    else refuse (spareUsed c n) 4 n
+    else refuse (strayBytes c n) 4 n
     else refuse (misnames c n) 5 n
 
 -- circuit end | 6 | I or O is 0, or I, F or O above 256

@@ -8,7 +8,8 @@ use Rattle.lists.specs.Scan.{countBelow}
 use Rattle.model.specs.Inputs.{F, L, inputsAt, Fault, planCount, planPair}
 use Rattle.model.specs.Values.{X, isSpecified, giveRow, hasConflict, someOppose}
 use Rattle.model.specs.Simulation.{lineValues, outputs, nextState, freeOutputs}
-use Rattle.model.specs.Expansion.{nout, extra, nothing, stateRow}
+use Rattle.model.specs.Implication.{extra, nothing}
+use Rattle.model.specs.Expansion.{nout, stateRow}
 
 -- some place is specified in both rows
 unfoldable pub overlaps : List ℕ → List ℕ → Bool
@@ -17,20 +18,20 @@ overlaps (a ∷ row) [] = false
 overlaps (a ∷ row) (b ∷ bs) = (isSpecified a && isSpecified b) || overlaps row bs
 
 -- how a sequence ends
-abbrev pub survives : ℕ
-survives = 0
+abbrev pub endsSurviving : ℕ
+endsSurviving = 0
 
-abbrev pub differing : ℕ
-differing = 1
+abbrev pub endsDiffering : ℕ
+endsDiffering = 1
 
-abbrev pub clashing : ℕ
-clashing = 2
+abbrev pub endsClashing : ℕ
+endsClashing = 2
 
 module _ (c t : List ℕ) (f : Fault) where
-  -- u is 0, or Nout(u - 1) is above 0
-  unfoldable pub isOpen : ℕ → Bool
-  isOpen zero = true
-  isOpen (suc u) = ltb 0 (nout c t f u)
+  -- u = 0, or u ≥ 1 with Nout(u - 1) > 0
+  unfoldable pub outputsLeft : ℕ → Bool
+  outputsLeft zero = true
+  outputsLeft (suc u) = ltb 0 (nout c t f u)
 
   -- any j in the extra is specified in the state list at u or was given by one of the pairs, taken earlier, at that u
   unfoldable pub touches : List (ℕ × ℕ) → ℕ → List ℕ → Bool
@@ -38,12 +39,13 @@ module _ (c t : List ℕ) (f : Fault) where
   touches (q ∷ pairs) u new =
       (eqb (q .0) u && (overlaps new (extra c t f u (q .1) 0) || overlaps new (extra c t f u (q .1) 1))) || touches pairs u new
 
-  -- the pair (u, i) is not passed over, where these pairs are taken
+  -- A pair is passed over if it names nothing, its bit is specified in the state list, u ≥ 1 with Nout(u - 1) = 0, or any j in its two extras
+  -- is specified there or was given by an earlier taken pair at that u: (u, i) is not.
   unfoldable pub takes : List (ℕ × ℕ) → ℕ → ℕ → Bool
   takes pairs u i =
       ltb u (L c t) && ltb i (F c)
       && not (isSpecified (getD (stateRow c t f u) i X))
-      && isOpen u
+      && outputsLeft u
       && not (touches pairs u (extra c t f u i 0)) && not (touches pairs u (extra c t f u i 1))
 
   -- no more than k pairs taken in all
@@ -68,12 +70,12 @@ module _ (c t : List ℕ) (f : Fault) where
   -- The sequence from unit u on, in this state, with so many units left: an output against the fault-free one, it differs; else a next
   -- state against its own list (up to unit L - 1), it clashes; else the new bits are added.
   unfoldable pub ending : List (ℕ × ℕ) → ℕ → ℕ → ℕ → List ℕ → ℕ
-  ending pairs b u zero state = survives
+  ending pairs b u zero state = endsSurviving
   ending pairs b u (suc left) state =
       let values = lineValues c f (inputsAt c t u) state in
       let next = giveRow (nextState c f values) (cond (ltb (suc u) (L c t)) (sequenceRow pairs b (suc u)) (nothing c)) in
       let later = ending pairs b (suc u) left next in
-      cond (someOppose (freeOutputs c t u) (outputs c f values)) differing (cond (hasConflict next) clashing later)
+      cond (someOppose (freeOutputs c t u) (outputs c f values)) endsDiffering (cond (hasConflict next) endsClashing later)
 
   -- Each is simulated from unit 0 to L - 1.
   unfoldable pub endOf : List (ℕ × ℕ) → ℕ → ℕ

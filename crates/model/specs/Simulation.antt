@@ -20,7 +20,8 @@ isStuck f n pin = eqb (f .line) n && eqb (f .pin) pin
 unfoldable pub seen : Fault → ℕ → ℕ → ℕ → ℕ
 seen f n pin v = cond (isStuck f n pin) (f .value) v
 
--- what output line n shows, where the lines have these values: a stuck line shows its value to all, outputs included
+-- what output line n shows: its line's value, which is already what the fault lets be seen; a stuck line shows its value to all, outputs
+-- included
 unfoldable pub shown : Fault → List ℕ → ℕ → ℕ
 shown f values n = getD values n X
 

@@ -14,7 +14,6 @@ abbrev pub fields16 : List ℕ → List ℕ
 fields16 [] = []
 fields16 (n ∷ ns) = bytes16 n ++ fields16 ns
 
--- a circuit record: kind, output mark, pins
 abbrev pub lineOf : ℕ → ℕ → List ℕ → List ℕ
 lineOf kind output pins = kind ∷ length pins ∷ output ∷ 0 ∷ fields16 pins ++ replicate (8 - 2 * length pins) 0
 
@@ -43,31 +42,53 @@ eightFields v = v .verdict ∷ v .m ∷ v .time ∷ v .line ∷ v .differing ∷
 
 unfoldable pub gradedSpecimens : List Verdict
 gradedSpecimens =
+    -- A (0,0,1)
     grade specimenA (0 ∷ 0 ∷ 0 ∷ []) (stuckAt 0 0 1) [] 6
+    -- A (0,0,0)
     ∷ grade specimenA (0 ∷ 0 ∷ 0 ∷ []) (stuckAt 0 0 0) [] 6
+    -- A (3,0,1)
     ∷ grade specimenA (0 ∷ 0 ∷ 0 ∷ []) (stuckAt 3 0 1) [] 6
+    -- A (3,1,1)
     ∷ grade specimenA (0 ∷ 0 ∷ 0 ∷ []) (stuckAt 3 1 1) [] 6
+    -- B (0,0,1), empty plan
     ∷ grade specimenB (0 ∷ 0 ∷ []) (stuckAt 0 0 1) [] 6
+    -- B, k = 0
     ∷ grade specimenB (0 ∷ 0 ∷ []) (stuckAt 0 0 1) [] 0
+    -- B, plan (0,0)
     ∷ grade specimenB (0 ∷ 0 ∷ []) (stuckAt 0 0 1) (planBytes ((0, 0) ∷ [])) 6
+    -- B, plan (0,0) (1,0)
     ∷ grade specimenB (0 ∷ 0 ∷ []) (stuckAt 0 0 1) (planBytes ((0, 0) ∷ (1, 0) ∷ [])) 6
+    -- D (0,0,0), test 1, empty plan
     ∷ grade specimenD (1 ∷ []) (stuckAt 0 0 0) [] 6
+    -- D, plan (0,0)
     ∷ grade specimenD (1 ∷ []) (stuckAt 0 0 0) (planBytes ((0, 0) ∷ [])) 6
+    -- D, test 1 1
     ∷ grade specimenD (1 ∷ 1 ∷ []) (stuckAt 0 0 0) [] 6
     ∷ []
 
 unfoldable pub elevenVerdicts : List (List ℕ)
 elevenVerdicts =
+    -- A (0,0,1)
     (3 ∷ 0 ∷ 0 ∷ 0 ∷ 1 ∷ 0 ∷ 0 ∷ 0 ∷ [])
+    -- A (0,0,0)
     ∷ (5 ∷ 0 ∷ 0 ∷ 0 ∷ 0 ∷ 0 ∷ 0 ∷ 0 ∷ [])
+    -- A (3,0,1)
     ∷ (1 ∷ 0 ∷ 1 ∷ 1 ∷ 0 ∷ 0 ∷ 0 ∷ 0 ∷ [])
+    -- A (3,1,1)
     ∷ (3 ∷ 0 ∷ 0 ∷ 0 ∷ 1 ∷ 0 ∷ 0 ∷ 0 ∷ [])
+    -- B (0,0,1), empty plan
     ∷ (6 ∷ 0 ∷ 0 ∷ 0 ∷ 0 ∷ 0 ∷ 1 ∷ 0 ∷ [])
+    -- B, k = 0
     ∷ (7 ∷ 0 ∷ 0 ∷ 0 ∷ 0 ∷ 0 ∷ 1 ∷ 0 ∷ [])
+    -- B, plan (0,0)
     ∷ (6 ∷ 1 ∷ 0 ∷ 0 ∷ 1 ∷ 0 ∷ 1 ∷ 0 ∷ [])
+    -- B, plan (0,0) (1,0)
     ∷ (6 ∷ 2 ∷ 0 ∷ 0 ∷ 1 ∷ 2 ∷ 1 ∷ 0 ∷ [])
+    -- D (0,0,0), test 1, empty plan
     ∷ (4 ∷ 0 ∷ 0 ∷ 0 ∷ 0 ∷ 0 ∷ 1 ∷ 0 ∷ [])
+    -- D, plan (0,0)
     ∷ (3 ∷ 1 ∷ 0 ∷ 0 ∷ 2 ∷ 0 ∷ 0 ∷ 0 ∷ [])
+    -- D, test 1 1
     ∷ (2 ∷ 0 ∷ 1 ∷ 1 ∷ 0 ∷ 0 ∷ 0 ∷ 0 ∷ [])
     ∷ []
 
@@ -78,7 +99,11 @@ faultsOfA = 0 ∷ 0 ∷ 0 ∷ 1 ∷ 0 ∷ 0 ∷ 0 ∷ 0 ∷ 3 ∷ 0 ∷ 0 ∷ 1 
 -- the whole print for them, byte by byte
 unfoldable pub printOfA : List ℕ
 printOfA =
+    -- 0 0 1 3 0 0 0 1 0 0 0 0
     48 ∷ 32 ∷ 48 ∷ 32 ∷ 49 ∷ 32 ∷ 51 ∷ 32 ∷ 48 ∷ 32 ∷ 48 ∷ 32 ∷ 48 ∷ 32 ∷ 49 ∷ 32 ∷ 48 ∷ 32 ∷ 48 ∷ 32 ∷ 48 ∷ 32 ∷ 48 ∷ 10
+    -- 0 0 0 5 0 0 0 0 0 0 0 1
     ∷ 48 ∷ 32 ∷ 48 ∷ 32 ∷ 48 ∷ 32 ∷ 53 ∷ 32 ∷ 48 ∷ 32 ∷ 48 ∷ 32 ∷ 48 ∷ 32 ∷ 48 ∷ 32 ∷ 48 ∷ 32 ∷ 48 ∷ 32 ∷ 48 ∷ 32 ∷ 49 ∷ 10
+    -- 3 0 1 1 0 1 1 0 0 0 0 2
     ∷ 51 ∷ 32 ∷ 48 ∷ 32 ∷ 49 ∷ 32 ∷ 49 ∷ 32 ∷ 48 ∷ 32 ∷ 49 ∷ 32 ∷ 49 ∷ 32 ∷ 48 ∷ 32 ∷ 48 ∷ 32 ∷ 48 ∷ 32 ∷ 48 ∷ 32 ∷ 50 ∷ 10
+    -- 3 1 1 3 0 0 0 1 0 0 0 0
     ∷ 51 ∷ 32 ∷ 49 ∷ 32 ∷ 49 ∷ 32 ∷ 51 ∷ 32 ∷ 48 ∷ 32 ∷ 48 ∷ 32 ∷ 48 ∷ 32 ∷ 49 ∷ 32 ∷ 48 ∷ 32 ∷ 48 ∷ 32 ∷ 48 ∷ 32 ∷ 48 ∷ 10 ∷ []

@@ -1,4 +1,4 @@
--- Starting states, their numbers, the run of one, and whether it differs.
+-- Starting states, their numbers, and whether one differs. Plan, state list and extras have no part in a run.
 use Prim.Native.Nat.{ℕ, zero, suc, _/_, _%_, _^_}
 use mathlib.Core.Bool.{Bool}
 use mathlib.Core.List.{List, [], _∷_}
@@ -12,7 +12,7 @@ unfoldable pub bits : ℕ → ℕ → List ℕ
 bits zero s = []
 bits (suc n) s = s % 2 ∷ bits n (s / 2)
 
--- how many state bits a starting state is free to choose
+-- F, the state bits that a starting state is free to choose
 unfoldable pub freeBits : List ℕ → ℕ
 freeBits c = F c
 

@@ -75,7 +75,23 @@ inverts k = eqb (k % 2) 1
 unfoldable pub gate : ℕ → List ℕ → ℕ
 gate k pins = invertIf (inverts k) (evenGate (k / 2) pins)
 
--- a line at a, given the value b: an X is filled, the opposite is a conflict, written 3. A conflict stays, and gates see it as X.
+-- one is 0 and the other 1; nothing is opposite to X
+unfoldable pub opposes : ℕ → ℕ → Bool
+opposes zero zero = false
+opposes zero (suc zero) = true
+opposes zero (suc (suc b)) = false
+opposes (suc zero) zero = true
+opposes (suc zero) (suc b) = false
+opposes (suc (suc a)) b = false
+
+-- at some place
+unfoldable pub someOppose : List ℕ → List ℕ → Bool
+someOppose [] bs = false
+someOppose (a ∷ row) [] = false
+someOppose (a ∷ row) (b ∷ bs) = opposes a b || someOppose row bs
+
+-- a line at a, given the value b: an X is filled, the opposite is a conflict, written 3. A conflict stays; a buffer passes it on, and every
+-- other gate sees it as X.
 unfoldable pub give : ℕ → ℕ → ℕ
 give zero zero = 0
 give zero (suc zero) = 3
@@ -97,18 +113,3 @@ giveRow (a ∷ row) (b ∷ bs) = give a b ∷ giveRow row bs
 unfoldable pub hasConflict : List ℕ → Bool
 hasConflict [] = false
 hasConflict (a ∷ row) = leb 3 a || hasConflict row
-
--- one is 0 and the other 1; nothing is opposite to X
-unfoldable pub opposes : ℕ → ℕ → Bool
-opposes zero zero = false
-opposes zero (suc zero) = true
-opposes zero (suc (suc b)) = false
-opposes (suc zero) zero = true
-opposes (suc zero) (suc b) = false
-opposes (suc (suc a)) b = false
-
--- at some place
-unfoldable pub someOppose : List ℕ → List ℕ → Bool
-someOppose [] bs = false
-someOppose (a ∷ row) [] = false
-someOppose (a ∷ row) (b ∷ bs) = opposes a b || someOppose row bs

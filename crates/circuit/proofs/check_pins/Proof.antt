@@ -1,6 +1,6 @@
 use mathlib.Core.Path.{_∙_}
 use Rattle.model.specs.Inputs.{isGate}
-use Rattle.model.specs.Refusals.{spareUsed}
+use Rattle.model.specs.Refusals.{strayBytes}
 use borrow.Author.Needs.{needs}
 use Rattle.circuit.proofs.check_pins.Statement.{statement}
 use Rattle.circuit.proofs.check_pins.Tie as tie
@@ -60,7 +60,7 @@ or-requires c κs = search needs
 
 -- src/lib.rt:160:1
 returns : tie.Need-returns
-unfolding spareUsed
+unfolding strayBytes
 returns c =
     let spare = c .before .before .before .before .before .either2 .ensures in
     let marks = c .before .before .before .before .before .before .before .either .ensures in

@@ -4,8 +4,8 @@ use Prim.Native.Nat.{_≤_, _-_}
 use native.Mathlib.Omega.{arith}
 use borrow.Author.Needs.{needs}
 use Rattle.lists.specs.Scan.{firstAnswer}
-use Rattle.lists.proofs.Scan.{firstAnswer-turn, firstAnswer-stop}
 use Rattle.model.specs.Refusals.{rows2to5}
+use Rattle.lists.proofs.Scan.{firstAnswer-turn, firstAnswer-stop}
 use Rattle.circuit.specs.Check.{refusalOf}
 use Rattle.circuit.specs.declared.Check.the-variants.{Passed}
 use Rattle.circuit.proofs.check_records.Statement.{statement}

@@ -4,8 +4,8 @@ use Prim.Native.Nat.{_≤_, _-_}
 use native.Mathlib.Omega.{arith}
 use borrow.Author.Tests.{le-leb, lt-leb}
 use Rattle.lists.specs.Scan.{anyBelow}
-use Rattle.lists.proofs.Scan.{anyBelow-turn, anyBelow-stop}
 use Rattle.model.specs.Refusals.{misnamed, misnames}
+use Rattle.lists.proofs.Scan.{anyBelow-turn, anyBelow-stop}
 use Rattle.circuit.proofs.misnames_from.Statement.{statement}
 use Rattle.circuit.proofs.misnames_from.Tie as tie
 use Rattle.circuit.proofs.misnames_from.Reads as reads

@@ -2,8 +2,8 @@ use mathlib.Core.Path.{_≡_, refl, _∙_}
 use Prim.Native.Nat.{_≤_, _-_}
 use native.Mathlib.Omega.{arith}
 use Rattle.lists.specs.Scan.{countBelow}
-use Rattle.lists.proofs.Scan.{countBelow-turn}
 use Rattle.model.specs.Inputs.{isInput, isFlipFlop, isOutput, kind, I, F, O}
+use Rattle.lists.proofs.Scan.{countBelow-turn}
 use Rattle.circuit.proofs.sizes_of.Statement.{statement}
 use Rattle.circuit.proofs.sizes_of.Tie as tie
 use Rattle.circuit.proofs.sizes_of.Reads as reads

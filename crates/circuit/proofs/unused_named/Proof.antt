@@ -3,8 +3,8 @@ use mathlib.Core.Bool.{false}
 use Prim.Native.Nat.{_≤_, _-_}
 use native.Mathlib.Omega.{arith}
 use Rattle.lists.specs.Scan.{anyBelow}
-use Rattle.lists.proofs.Scan.{anyBelow-turn, anyBelow-stop}
 use Rattle.model.specs.Refusals.{unusedNamed}
+use Rattle.lists.proofs.Scan.{anyBelow-turn, anyBelow-stop}
 use Rattle.circuit.proofs.unused_named.Statement.{statement}
 use Rattle.circuit.proofs.unused_named.Tie as tie
 use Rattle.circuit.proofs.unused_named.Reads as reads
