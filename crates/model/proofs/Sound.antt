@@ -255,26 +255,26 @@ module _ (c t : List ℕ) (f : Fault) (a : Accepted c t f) where
           giveRow-allows _ _ _ ih (rw (← at) (extra-allows (q .0) (q .1) _ (n .0) (total-allows _ b))))
           (λ _. ih))
 
-      ending-endsSurviving : (pairs : List (ℕ × ℕ)) → Named c t pairs → (left u : ℕ) (now : List ℕ) → u + left ≡ L c t → AllowsRow now (stateAt c t f st u)
+      ending-survives : (pairs : List (ℕ × ℕ)) → Named c t pairs → (left u : ℕ) (now : List ℕ) → u + left ≡ L c t → AllowsRow now (stateAt c t f st u)
           → ending c t f pairs (runNumber pairs) u left now ≡ endsSurviving
       unfolding ending
-      ending-endsSurviving pairs n zero u now e h = refl
-      ending-endsSurviving pairs n (suc left) u now e h =
+      ending-survives pairs n zero u now e h = refl
+      ending-survives pairs n (suc left) u now e h =
           let v : AllowsRow (lineValues c f (inputsAt c t u) now) (valuesAt c t f st u) = values-step u now h in
           let row : AllowsRow (cond (ltb (suc u) (L c t)) (sequenceRow c t f pairs (runNumber pairs) (suc u)) (nothing c)) (stateAt c t f st (suc u)) =
           cond-cases (λ (row : List ℕ). AllowsRow row (stateAt c t f st (suc u))) _ _ _
           (λ g. sequenceRow-allows pairs (suc u) n (ltb-true _ _ g)) (λ _. nothing-allows (suc u) (omega arith)) in
           let m : AllowsRow (giveRow (nextState c f (lineValues c f (inputsAt c t u) now)) _) (stateAt c t f st (suc u)) =
           giveRow-allows _ _ _ (next-step u _ v) row in
-          rw (no-opposing u _ (omega arith) v, no-conflict _ _ m) (ending-endsSurviving pairs n left (suc u) _ (omega arith) m)
+          rw (no-opposing u _ (omega arith) v, no-conflict _ _ m) (ending-survives pairs n left (suc u) _ (omega arith) m)
 
-      some-endsSurviving : (pairs : List (ℕ × ℕ)) → Named c t pairs → eqb (countEnding c t f pairs endsSurviving) 0 ≡ true → ⊥
+      some-survives : (pairs : List (ℕ × ℕ)) → Named c t pairs → eqb (countEnding c t f pairs endsSurviving) 0 ≡ true → ⊥
       unfolding countEnding endOf
-      some-endsSurviving pairs n e =
+      some-survives pairs n e =
           let none : countEnding c t f pairs endsSurviving ≡ 0 = eqb-true _ _ e in
           let one : 0 < countEnding c t f pairs endsSurviving =
           countBelow-positive (λ b. eqb (endOf c t f pairs b) endsSurviving) _ (runNumber pairs) (runNumber-less pairs n)
-          (eq-eqb _ _ (ending-endsSurviving pairs n (L c t) 0 _ (omega arith) (sequenceRow-allows pairs 0 n (a .units)))) in
+          (eq-eqb _ _ (ending-survives pairs n (L c t) 0 _ (omega arith) (sequenceRow-allows pairs 0 n (a .units)))) in
           let z : ⊥ = omega arith in
           z
 
@@ -309,7 +309,7 @@ module _ (c t : List ℕ) (f : Fault) (a : Accepted c t f) where
 
   pub stage5-sound : (p : List ℕ) (k : ℕ) → eqb (countEnding c t f (taken c t f p k) endsSurviving) 0 ≡ true → (s : ℕ) → differs c t f s ≡ true
   stage5-sound p k e s =
-      is-true _ (λ d. some-endsSurviving (startingState c s) (start-whole s) (start-each s) (alike s d) (taken c t f p k) (taken-named c t f p k) e)
+      is-true _ (λ d. some-survives (startingState c s) (start-whole s) (start-each s) (alike s d) (taken c t f p k) (taken-named c t f p k) e)
 
   -- ---- stage 2: with no place open at unit 0, or no flip-flop, no starting state differs
   openPlaces-zero : (k u v : ℕ) → openPlaces c t f u k ≡ 0 → u ≤ v → v < u + k → countOpen (freeOutputs c t v) (plainOutputs c t f v) ≡ 0

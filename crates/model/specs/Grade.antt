@@ -74,7 +74,7 @@ module _ (c t : List ℕ) (f : Fault) where
           start = start;
         }
 
-    -- None endsSurviving: verdict 3.
+    -- None survives: verdict 3.
     unfoldable pub stage5 : Option Verdict
     stage5 = cond (eqb (countEnding c t f (taken c t f p k) endsSurviving) 0) (some (counted 3 0)) none
 

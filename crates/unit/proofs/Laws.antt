@@ -1,0 +1,167 @@
+-- One line more, one pin more, one flip-flop more, in a lane.
+use mathlib.Core.Path.{_≡_, refl, ap, _∙_}
+use mathlib.Core.Bool.{Bool, true, cond}
+use mathlib.Core.List.{List, [], _∷_, _++_, map}
+use Prim.Native.Nat.{ℕ, zero, suc, _+_, _*_, _-_, _/_, _<_, _≤_}
+use native.Mathlib.Omega.{arith}
+use native.Mathlib.Numerals.{add-one}
+use borrow.Author.Tests.{eq-eqb, ne-eqb, le-leb}
+use lib.ListN.{length, getD, set, take, length-map, length-take}
+use lib.Seq.{take-length}
+use Rattle.lists.specs.Scan.{countBelow, tabulate}
+use Rattle.lists.proofs.Scan.{countBelow-less}
+use Rattle.model.specs.Inputs.{N, kind, pinCount, pinLine, isInput, isFlipFlop, isGate, I, F, flipFlops, flipFlopLine, Fault}
+use Rattle.model.specs.Accepted.{ValidCircuit}
+use Rattle.model.specs.Values.{X, evenGate, gate, invertIf, inverts}
+use Rattle.model.specs.Simulation.{isStuck, seen, pinSeen, pinsSeen, behind, valuesBelow, lineValues, nextState}
+use Rattle.model.proofs.Runs.{length-valuesBelow, length-flipFlops, flipFlopLine-holds}
+use Rattle.lanes.specs.Lane.{Shows, Lane}
+use Rattle.lanes.proofs.Laws.{lane-at, lane-add, lane-none}
+use Rattle.unit.specs.Unit.{StuckAt, Stuck, Listed}
+
+-- within the list the default does not matter
+pub getD-any : (l : List ℕ) (i d e : ℕ) → i < length l → getD l i d ≡ getD l i e
+getD-any [] i d e h = absurd (let z : ⊥ = omega arith in z)
+getD-any (x ∷ l) zero d e h = refl
+getD-any (x ∷ l) (suc i) d e h = getD-any l i d e (omega arith)
+
+-- the words that were read at place m
+pub lane-read : (t : ℕ) (ws vs : List ℕ) (m z o i : ℕ) → Lane t ws vs → z ≡ getD ws (2 * m) 0 → o ≡ getD ws (2 * m + 1) 0 → m ≡ i → i < length vs
+    → Shows t z o (getD vs i X)
+lane-read t ws vs m z o i l ez eo e h = rw (ez, eo, e) (lane-at t ws vs i l h)
+
+-- ---- what is seen
+-- the row that was read of a line
+pub stuck-row : (t : ℕ) (hits masks : List ℕ) (f : Fault) (n row : ℕ) → Stuck t hits masks f → n < length hits → row ≡ getD hits n 0 → StuckAt t masks row f n
+stuck-row t hits masks f n row s h e = rw e (s .at n h)
+
+module _ (t z o v : ℕ) (masks : List ℕ) (row : ℕ) (f : Fault) (n pin : ℕ) (s : StuckAt t masks row f n) where
+  pub seen-free : row ≡ 0 → Shows t z o v → Shows t z o (seen f n pin v)
+  unfolding seen
+  seen-free e h = rw (s .free e pin) h
+
+  pub seen-held : (row ≡ 0 → ⊥) → pin < 5
+      → ((hit : Bool) (w : ℕ) → w < 2 → Shows t (getD masks (2 * (5 * row + pin)) 0) (getD masks (2 * (5 * row + pin) + 1) 0) (cond hit w X) → Shows t z o (cond hit w v))
+      → Shows t z o (seen f n pin v)
+  unfolding seen
+  seen-held g l h = h (isStuck f n pin) (f .value) (s .binary) (s .held g pin l)
+
+-- ---- a gate's pins, from the last to the first
+module _ (t z o k : ℕ) (c : List ℕ) (f : Fault) (vs : List ℕ) (n : ℕ) where
+  pub pins-none : (j p : ℕ) → p ≡ j → Shows t z o (evenGate k []) → Shows t z o (evenGate k (tabulate (λ pin. pinSeen c f vs n pin) (p + 1) (j - p)))
+  unfolding tabulate
+  pins-none j p e h = let q : j - p ≡ 0 = omega arith in rw q h
+
+  pub pins-more : (j p q : ℕ) → p ≡ q + 1 → p ≤ j
+      → Shows t z o (evenGate k (pinSeen c f vs n p ∷ tabulate (λ pin. pinSeen c f vs n pin) (p + 1) (j - p)))
+      → Shows t z o (evenGate k (tabulate (λ pin. pinSeen c f vs n pin) (q + 1) (j - q)))
+  unfolding tabulate
+  pins-more j p q e l h =
+      let left : j - q ≡ suc (j - p) = omega arith in
+      let next : suc p ≡ p + 1 = omega arith in
+      rw (left, ← e, next) h
+
+  pub pins-all : (p : ℕ) → p ≡ 0 → Shows t z o (invertIf (inverts k) (evenGate (k / 2) (tabulate (λ pin. pinSeen c f vs n pin) (p + 1) (pinCount c n - p))))
+      → Shows t z o (gate k (pinsSeen c f vs n))
+  unfolding gate pinsSeen
+  pins-all p e h = let q : pinCount c n - 0 ≡ pinCount c n = omega arith in rw (e, q) at h
+
+-- ---- what stands behind a line, by its kind
+module _ (t z o : ℕ) (c : List ℕ) (f : Fault) (inputs st vs : List ℕ) (n : ℕ) where
+  pub behind-input : (i : ℕ) → kind c n ≡ 0 → i ≡ countBelow (λ m. isInput c m) n → i < length inputs → Shows t z o (getD inputs i 0)
+      → Shows t z o (behind c f inputs st vs n)
+  unfolding behind isInput
+  behind-input i e g l h = rw (eq-eqb (kind c n) 0 e, ← g, ← (getD-any inputs i 0 X l)) h
+
+  pub behind-state : (s : ℕ) → kind c n ≡ 1 → s ≡ countBelow (λ m. isFlipFlop c m) n → Shows t z o (getD st s X) → Shows t z o (behind c f inputs st vs n)
+  unfolding behind isInput isFlipFlop
+  behind-state s e g h = rw (ne-eqb (kind c n) 0 (λ q. (let z : ⊥ = omega arith in z)), eq-eqb (kind c n) 1 e, ← g) h
+
+  pub behind-gate : (k : ℕ) → k ≡ kind c n → 2 ≤ k → Shows t z o (gate k (pinsSeen c f vs n)) → Shows t z o (behind c f inputs st vs n)
+  unfolding behind isInput isFlipFlop
+  behind-gate k e l h =
+      rw (ne-eqb (kind c n) 0 (λ q. (let z : ⊥ = omega arith in z)), ne-eqb (kind c n) 1 (λ q. (let z : ⊥ = omega arith in z)), ← e) h
+
+-- an input line, and a flip-flop line, has its place
+pub input-place : (c : List ℕ) (n : ℕ) → n < N c → kind c n ≡ 0 → countBelow (λ m. isInput c m) n < I c
+unfolding I isInput
+input-place c n h e = countBelow-less (λ m. isInput c m) n (N c) h (eq-eqb (kind c n) 0 e)
+
+pub state-place : (c : List ℕ) (n : ℕ) → n < N c → kind c n ≡ 1 → countBelow (λ m. isFlipFlop c m) n < F c
+unfolding F isFlipFlop
+state-place c n h e = countBelow-less (λ m. isFlipFlop c m) n (N c) h (eq-eqb (kind c n) 1 e)
+
+-- ---- the loop over the lines
+module _ (c : List ℕ) (f : Fault) (inputs st : List ℕ) where
+  pub values-none : (t : ℕ) (ws : List ℕ) → Lane t ws (valuesBelow c f inputs st 0)
+  values-none t ws = lane-none t ws _ (length-valuesBelow c f inputs st 0)
+
+  pub values-more : (t : ℕ) (ws ws′ : List ℕ) (n z o : ℕ) → ws′ ≡ set (set ws (2 * n) z) (2 * n + 1) o → 2 * n + 2 ≤ length ws
+      → Lane t ws (valuesBelow c f inputs st n) → Shows t z o (seen f n 0 (behind c f inputs st (valuesBelow c f inputs st n) n))
+      → Lane t ws′ (valuesBelow c f inputs st (n + 1))
+  unfolding valuesBelow
+  values-more t ws ws′ n z o e l h g = rw (e, add-one n) (lane-add t ws _ n z o _ (length-valuesBelow c f inputs st n) l h g)
+
+  pub values-all : (t : ℕ) (ws : List ℕ) (n : ℕ) → n ≡ N c → Lane t ws (valuesBelow c f inputs st n) → Lane t ws (lineValues c f inputs st)
+  unfolding lineValues
+  values-all t ws n e h = rw e at h
+
+-- ---- the loop over the flip-flops
+map-take : (g : ℕ → ℕ) (xs : List ℕ) (n : ℕ) → n < length xs → map g (take (n + 1) xs) ≡ map g (take n xs) ++ (g (getD xs n 0) ∷ [])
+map-take g [] n h = absurd (let z : ⊥ = omega arith in z)
+map-take g (x ∷ xs) zero h = refl
+map-take g (x ∷ xs) (suc n) h =
+    let e : suc n + 1 ≡ suc (n + 1) = omega arith in
+    rw e (ap (_∷_ (g x)) (map-take g xs n (omega arith)))
+
+module _ (c : List ℕ) (f : Fault) (vs : List ℕ) where
+  -- the next state of the first s flip-flops
+  unfoldable pub nextOf : ℕ → List ℕ
+  nextOf s = map (λ n. pinSeen c f vs n 1) (take s (flipFlops c))
+
+  length-nextOf : (s : ℕ) → s ≤ F c → length (nextOf s) ≡ s
+  unfolding nextOf
+  length-nextOf s h = length-map (take s (flipFlops c)) (λ n. pinSeen c f vs n 1) ∙ length-take s (flipFlops c) ∙ (let e : length (flipFlops c) ≡ F c = length-flipFlops c in omega arith)
+
+  pub next-none : (t : ℕ) (ws : List ℕ) → Lane t ws (nextOf 0)
+  next-none t ws = lane-none t ws _ (length-nextOf 0 (omega arith))
+
+  pub next-more : (t : ℕ) (ws ws′ : List ℕ) (s z o : ℕ) → ws′ ≡ set (set ws (2 * s) z) (2 * s + 1) o → s < F c → 2 * s + 2 ≤ length ws → Lane t ws (nextOf s)
+      → Shows t z o (pinSeen c f vs (flipFlopLine c s) 1) → Lane t ws′ (nextOf (s + 1))
+  unfolding flipFlopLine
+  next-more t ws ws′ s z o w b l h g =
+      let e : nextOf (s + 1) ≡ nextOf s ++ (pinSeen c f vs (getD (flipFlops c) s 0) 1 ∷ []) = step in
+      rw (w, e) (lane-add t ws _ s z o _ (length-nextOf s (omega arith)) l h g)
+    where
+      step : nextOf (s + 1) ≡ nextOf s ++ (pinSeen c f vs (getD (flipFlops c) s 0) 1 ∷ [])
+      step = unfold nextOf in map-take (λ n. pinSeen c f vs n 1) (flipFlops c) s (omega (arith, length-flipFlops c))
+
+  pub next-all : (t : ℕ) (ws : List ℕ) (s : ℕ) → s ≡ F c → Lane t ws (nextOf s) → Lane t ws (nextState c f vs)
+  unfolding nextOf nextState
+  next-all t ws s e h = rw (e, ← length-flipFlops c, take-length) at h
+
+-- ---- what a valid circuit gives at one line
+pub is-gate : (c : List ℕ) (n k : ℕ) → k ≡ kind c n → 2 ≤ k → isGate c n ≡ true
+unfolding isGate
+is-gate c n k e h = le-leb 2 (kind c n) (omega arith)
+
+pub lower-pin : (c : List ℕ) → ValidCircuit c → (n p : ℕ) → n < N c → isGate c n ≡ true → 1 ≤ p → p ≤ pinCount c n → pinLine c n p < n
+lower-pin c v n zero h g a b = absurd (let z : ⊥ = omega arith in z)
+lower-pin c v n (suc i) h g a b = v .lower n i h g b
+
+-- the flip-flop at place s of the table
+pub record FlopAt (c table : List ℕ) (s : ℕ) : Type 0 where
+  pub place : s < length table
+  pub line : getD table s 0 ≡ flipFlopLine c s
+  pub below : getD table s 0 < N c
+  pub fed : pinLine c (getD table s 0) 1 < N c
+
+pub flop-at : (c table : List ℕ) → ValidCircuit c → Listed (flipFlops c) table → (s : ℕ) → s < F c → FlopAt c table s
+flop-at c table v l s h =
+    let long : length (flipFlops c) ≡ F c = length-flipFlops c in
+    let same : getD table s 0 ≡ flipFlopLine c s = table-line (l .same s (omega arith)) in
+    let holds : (flipFlopLine c s < N c) × (isFlipFlop c (flipFlopLine c s) ≡ true) = flipFlopLine-holds c s h in
+    record { place = omega (arith, l .room); line = same; below = rw same (holds .0); fed = rw same (v .fed _ (holds .0) (holds .1)) }
+  where
+    table-line : getD table s 0 ≡ getD (flipFlops c) s 0 → getD table s 0 ≡ flipFlopLine c s
+    table-line e = e ∙ (unfold flipFlopLine in refl)

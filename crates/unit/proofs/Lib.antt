@@ -1,0 +1,2 @@
+-- Laws of a unit in one lane.
+pub mod Laws

@@ -1,0 +1,66 @@
+use mathlib.Core.Path.{refl, sym, _∙_}
+use native.Mathlib.Omega.{arith}
+use Rattle.unit.proofs.Laws.{lane-read, behind-input, behind-state, behind-gate, input-place, state-place}
+use borrow.Author.Needs.{needs}
+use Rattle.unit.proofs.behind_lanes.Statement.{statement}
+use Rattle.unit.proofs.behind_lanes.Tie as tie
+use Rattle.unit.proofs.behind_lanes.Reads as reads
+use Rattle.unit.proofs.behind_lanes.Lts as lts
+use Rattle.lanes.proofs.Lanes.all.Reads as all-reads
+use Rattle.unit.proofs.gate_lanes.Reads as gate-lanes-reads
+use Rattle.unit.proofs.lanes_at.Reads as lanes-at-reads
+
+-- src/lib.rt:81:25
+shared-slice-read-all : tie.Need-shared-slice-read-all
+shared-slice-read-all c =
+    let start = c .before .before .before .before .before .before .before in
+    omega (arith, start .pre .6, start .pre .8, input-place _ _ (start .pre .1) (sym (start .pre .2) ∙ c .before .match .keys1))
+
+-- src/lib.rt:81:14
+all-requires : tie.Need-all-requires
+all-requires c κs = search needs
+
+-- src/lib.rt:82:14
+lanes-at-requires : tie.Need-lanes-at-requires
+lanes-at-requires c κs =
+    let start = c .before .before .before .before .before .before in
+    omega (arith, start .pre .7, start .pre .9, state-place _ _ (start .pre .1) (sym (start .pre .2) ∙ c .match .keys2))
+
+-- src/lib.rt:83:14
+gate-lanes-requires : tie.Need-gate-lanes-requires
+gate-lanes-requires c κs = search needs
+
+-- src/lib.rt:63:1
+returns : tie.Need-returns
+returns c =
+    let start = c .before .before .before .before .before .before .before .before in
+    let e = sym (start .pre .2) ∙ c .before .before .match .keys1 in
+    λ t f st vs l s ls es h eh. behind-input t _ _ _ f _ st vs _ _ e (start .pre .6) (omega (arith, start .pre .6, start .pre .8, input-place _ _ (start .pre .1) e)) (c .all .ensures t l)
+
+-- src/lib.rt:63:1
+returns-2 : tie.Need-returns-2
+returns-2 c =
+    let start = c .before .before .before .before .before .before .before in
+    let e = sym (start .pre .2) ∙ c .before .match .keys2 in
+    let read = c .lanes-at .ensures in
+    λ t f st vs l s ls es h eh.
+    behind-state t _ _ _ f _ st vs _ _ e (start .pre .7)
+    (lane-read t _ st _ _ _ _ ls (read .0) (read .1) refl (omega (arith, es, start .pre .7, state-place _ _ (start .pre .1) e)))
+
+-- src/lib.rt:63:1
+returns-3 : tie.Need-returns-3
+returns-3 c =
+    let start = c .before .before .before .before .before .before .before in
+    λ t f st vs l s ls es h eh. behind-gate t _ _ _ f _ st vs _ _ (start .pre .2) (omega arith) (c .gate-lanes .ensures t f vs l s h eh)
+
+pub behind-lanes-spec : {M : Type 1} → statement M
+behind-lanes-spec =
+    tie.close
+    (tie.spec
+    shared-slice-read-all
+    all-requires
+    lanes-at-requires
+    gate-lanes-requires
+    returns
+    returns-2
+    returns-3)

@@ -1,0 +1,139 @@
+// One time unit in 64 lanes, with a state and a fault of its own in each: the values of all lines, in line order, and the next state.
+// Words stand two to a place, known 0 and known 1.
+ghost use mathlib.Core.Path.{_≡_};
+ghost use mathlib.Core.List.{List};
+ghost use Prim.Native.Nat.{ℕ, _+_, _*_, _<_, _≤_};
+ghost use lib.ListN.{length, getD, set};
+ghost use Rattle.lists.specs.Scan.{countBelow};
+ghost use Rattle.model.specs.Inputs.{N, kind, isInput, isFlipFlop, I, F, flipFlops, Fault};
+ghost use Rattle.model.specs.Accepted.{ValidCircuit};
+ghost use Rattle.model.specs.Values.{gate};
+ghost use Rattle.model.specs.Simulation.{seen, pinsSeen, behind, lineValues, nextState};
+ghost use Rattle.lanes.specs.Lane.{Holds, Lane};
+ghost use Rattle.unit.specs.Unit.{StuckAt, Stuck, Listed};
+use lanes::Lanes;
+
+// The lanes at place m.
+pub fn lanes_at(words: &[u64], m: usize) -> Lanes
+    requires { ⌜ 2 * m + 2 ≤ length (now words) ⌝ }
+    ensures { λ r. ⌜ (r .zeros ≡ getD (now (words .entry)) (2 * m) 0) × (r .ones ≡ getD (now (words .entry)) (2 * m + 1) 0) ⌝ }
+{
+    Lanes {
+        zeros: words[2 * m],
+        ones: words[2 * m + 1],
+    }
+}
+
+pub fn put_lanes(words: &mut [u64], m: usize, x: Lanes)
+    requires { ⌜ 2 * m + 2 ≤ length (now words) ⌝ }
+    ensures { λ _. ⌜ now (words .exit) ≡ set (set (now (words .entry)) (2 * m) (x .zeros)) (2 * m + 1) (x .ones) ⌝ }
+{
+    words[2 * m] = x.zeros;
+    words[2 * m + 1] = x.ones;
+}
+
+// What is seen at a pin (0: the line itself) of a line with this row of masks, where x stands behind it.
+fn seen_at(masks: &[u64], row: usize, pin: usize, x: Lanes) -> Lanes
+    requires { ⌜ (2560 ≤ length (now masks)) × (row < 256) × (pin < 5) ⌝ }
+    ensures { λ r. ⌜ ((t : ℕ) (f : Fault) (n v : ℕ) → StuckAt t (now (masks .entry)) row f n → Holds t x v → Holds t r (seen f n pin v)) ⌝ }
+{
+    if row == 0 {
+        return x;
+    }
+    x.stuck(lanes_at(masks, 5 * row + pin))
+}
+
+// Gate n, of kind k, from its last pin to its first.
+fn gate_lanes(c: &[u8], masks: &[u64], words: &[u64], n: usize, k: u8, row: usize) -> Lanes
+    requires { ⌜ (ValidCircuit (now c)) × (n < N (now c)) × (k ≡ kind (now c) n) × (2 ≤ k) × (2560 ≤ length (now masks)) × (row < 256) × (2 * n ≤ length (now words)) ⌝ }
+    ensures { λ r. ⌜ ((t : ℕ) (f : Fault) (vs : List ℕ) → t < 64 → StuckAt t (now (masks .entry)) row f n → Lane t (now (words .entry)) vs → length vs ≡ n → Holds t r (gate k (pinsSeen (now (c .entry)) f vs n))) ⌝ }
+{
+    let mut x = Lanes::start(k);
+    let mut p = circuit::pins_of(c, n);
+    while 0 < p {
+        let m = circuit::pin_of(c, n, p);
+        let y = seen_at(masks, row, p, lanes_at(words, m));
+        x = y.combine(k, x);
+        p -= 1;
+    }
+    x.finish(k)
+}
+
+// What stands behind line n, of kind k, with i inputs and s flip-flops below it.
+fn behind_lanes(
+    c: &[u8],
+    inputs: &[u8],
+    state: &[u64],
+    masks: &[u64],
+    words: &[u64],
+    n: usize,
+    k: u8,
+    row: usize,
+    i: usize,
+    s: usize,
+) -> Lanes
+    requires { ⌜ (ValidCircuit (now c)) × (n < N (now c)) × (k ≡ kind (now c) n) × (2560 ≤ length (now masks)) × (row < 256) × (2 * n ≤ length (now words))
+        × (i ≡ countBelow (λ m. isInput (now c) m) n) × (s ≡ countBelow (λ m. isFlipFlop (now c) m) n) × (I (now c) ≤ length (now inputs)) × (2 * F (now c) ≤ length (now state)) ⌝ }
+    ensures { λ r. ⌜ ((t : ℕ) (f : Fault) (st vs : List ℕ) → t < 64 → StuckAt t (now (masks .entry)) row f n → Lane t (now (state .entry)) st → length st ≡ F (now (c .entry))
+        → Lane t (now (words .entry)) vs → length vs ≡ n → Holds t r (behind (now (c .entry)) f (now (inputs .entry)) st vs n)) ⌝ }
+{
+    match k {
+        0 => Lanes::all(inputs[i]),
+        1 => lanes_at(state, s),
+        _ => gate_lanes(c, masks, words, n, k, row),
+    }
+}
+
+// The values of all lines.
+pub fn simulate_unit(
+    c: &[u8],
+    lines: usize,
+    inputs: &[u8],
+    state: &[u64],
+    hits: &[u8],
+    masks: &[u64],
+    words: &mut [u64],
+)
+    requires { ⌜ (ValidCircuit (now c)) × (lines ≡ N (now c)) × (lines ≤ length (now hits)) × (2560 ≤ length (now masks)) × (2 * lines ≤ length (now words))
+        × (I (now c) ≤ length (now inputs)) × (2 * F (now c) ≤ length (now state)) ⌝ }
+    ensures { λ _. ⌜ ((t : ℕ) (f : Fault) (st : List ℕ) → Stuck t (now (hits .entry)) (now (masks .entry)) f → Lane t (now (state .entry)) st → length st ≡ F (now (c .entry))
+        → Lane t (now (words .exit)) (lineValues (now (c .entry)) f (now (inputs .entry)) st)) ⌝ }
+{
+    let mut i: usize = 0;
+    let mut s: usize = 0;
+    let mut n: usize = 0;
+    while n < lines {
+        let k = circuit::kind_of(c, n);
+        let row = circuit::wide(hits[n]);
+        let x = behind_lanes(c, inputs, state, masks, words, n, k, row, i, s);
+        put_lanes(words, n, seen_at(masks, row, 0, x));
+        i += circuit::one_if(k == 0);
+        s += circuit::one_if(k == 1);
+        n += 1;
+    }
+}
+
+// The next state: what the pins of the flip-flops, whose lines the table gives, see.
+pub fn next_state(
+    c: &[u8],
+    flops: &[usize],
+    count: usize,
+    hits: &[u8],
+    masks: &[u64],
+    words: &[u64],
+    state: &mut [u64],
+)
+    requires { ⌜ (ValidCircuit (now c)) × (Listed (flipFlops (now c)) (now flops)) × (count ≡ F (now c)) × (N (now c) ≤ length (now hits)) × (2560 ≤ length (now masks))
+        × (2 * N (now c) ≤ length (now words)) × (2 * count ≤ length (now state)) ⌝ }
+    ensures { λ _. ⌜ ((t : ℕ) (f : Fault) (vs : List ℕ) → Stuck t (now (hits .entry)) (now (masks .entry)) f → Lane t (now (words .entry)) vs → length vs ≡ N (now (c .entry))
+        → Lane t (now (state .exit)) (nextState (now (c .entry)) f vs)) ⌝ }
+{
+    let mut s: usize = 0;
+    while s < count {
+        let n = flops[s];
+        let m = circuit::pin_of(c, n, 1);
+        let row = circuit::wide(hits[n]);
+        put_lanes(state, s, seen_at(masks, row, 1, lanes_at(words, m)));
+        s += 1;
+    }
+}
