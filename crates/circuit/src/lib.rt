@@ -1,61 +1,12 @@
-// Circuit records: their fields, the sizes of a circuit, the tables of its flip-flops and outputs, and rows 1 to 6 of the table of refusals.
+// Circuit records: their fields, the sizes of a circuit, and the tables of its flip-flops and outputs.
+ghost use mathlib.Core.Bool.{true, cond};
 ghost use mathlib.Core.Path.{_≡_};
-ghost use mathlib.Core.Bool.{cond, _&&_, _||_};
-ghost use mathlib.Core.List.{List};
 ghost use Prim.Native.Nat.{ℕ, _+_, _*_, _<_, _≤_};
-ghost use lib.ListN.{length};
-ghost use lib.Dec.{leb};
-ghost use Rattle.lists.specs.Scan.{_else_, anyBelow, firstAnswer};
-ghost use Rattle.model.specs.Inputs.{N, kind, pinCount, outputMark, spareByte, pinLine, isGate};
-ghost use Rattle.model.specs.Refusals.{refuse, row1, pinsFit, unusedNamed, strayBytes, misnames, rows2to5, row6, circuitRows};
-ghost use Rattle.circuit.specs.Check.{refusalOf, SizesOf};
-
-// Whether a rule is broken, and if so its number and position.
-pub enum Check {
-    Passed,
-    Broken { rule: u8, at: usize },
-}
-
-impl Check {
-    // Broken where the test holds.
-    pub fn refuse(broken: bool, rule: u8, at: usize) -> Check
-        ensures { λ r. ⌜ refusalOf r ≡ refuse broken rule at ⌝ }
-    {
-        if broken {
-            return Check::Broken { rule, at };
-        }
-        Check::Passed
-    }
-
-    // The first that is broken.
-    pub fn or(self, later: Check) -> Check
-        ensures { λ r. ⌜ refusalOf r ≡ (refusalOf self else refusalOf later) ⌝ }
-    {
-        let first = self;
-        match first {
-            Check::Passed => later,
-            Check::Broken { rule, at } => Check::Broken { rule, at },
-        }
-    }
-}
-
-pub fn either(a: bool, b: bool) -> bool
-    ensures { λ r. ⌜ r ≡ (a || b) ⌝ }
-{
-    if a {
-        return true;
-    }
-    b
-}
-
-pub fn both(a: bool, b: bool) -> bool
-    ensures { λ r. ⌜ r ≡ (a && b) ⌝ }
-{
-    if a {
-        return b;
-    }
-    false
-}
+ghost use lib.ListN.{length, set};
+ghost use Rattle.lists.specs.Scan.{countBelow, select};
+ghost use Rattle.model.specs.Inputs.{N, kind, pinCount, outputMark, spareByte, pinLine, flipFlops, outputLines};
+ghost use Rattle.model.specs.Accepted.{ValidCircuit};
+ghost use Rattle.circuit.specs.Table.{SizesOf, Listed, byteIsOne};
 
 // N, I, F and O.
 pub struct Sizes {
@@ -92,7 +43,7 @@ pub fn mark_of(c: &[u8], n: usize) -> u8
     c[12 * n + 2]
 }
 
-fn spare_of(c: &[u8], n: usize) -> u8
+pub fn spare_of(c: &[u8], n: usize) -> u8
     requires { ⌜ 12 * n + 12 ≤ length (now c) ⌝ }
     ensures { λ r. ⌜ r ≡ spareByte (now (c .entry)) n ⌝ }
 {
@@ -107,98 +58,6 @@ pub fn pin_of(c: &[u8], n: usize, p: usize) -> usize
     let low = wide(c[12 * n + 2 + 2 * p]);
     let high = wide(c[12 * n + 2 + 2 * p + 1]);
     low + 256 * high
-}
-
-// Row 3.
-fn pins_fit(k: u8, pins: usize) -> bool
-    ensures { λ r. ⌜ r ≡ pinsFit k pins ⌝ }
-{
-    match k {
-        0 => pins == 0,
-        1..=3 => pins == 1,
-        _ => both(2 <= pins, pins <= 4),
-    }
-}
-
-// Row 4's unused pins.
-fn unused_named(c: &[u8], n: usize, pins: usize) -> bool
-    requires { ⌜ (12 * n + 12 ≤ length (now c)) × (pins ≡ pinCount (now c) n) ⌝ }
-    ensures { λ r. ⌜ r ≡ anyBelow (λ i. unusedNamed (now (c .entry)) n i) 4 ⌝ }
-{
-    let mut i: usize = 0;
-    while i < 4 {
-        if both(pins <= i, 0 < pin_of(c, n, i + 1)) {
-            return true;
-        }
-        i += 1;
-    }
-    false
-}
-
-// Row 5: a pin may name a line below `limit`.
-fn misnames_from(c: &[u8], n: usize, pins: usize, limit: usize) -> bool
-    requires { ⌜ (12 * n + 12 ≤ length (now c)) × (pins ≡ pinCount (now c) n) × (pins ≤ 4) × (limit ≡ cond (isGate (now c) n) n (N (now c))) ⌝ }
-    ensures { λ r. ⌜ r ≡ misnames (now (c .entry)) n ⌝ }
-{
-    let mut i: usize = 0;
-    while i < pins {
-        if limit <= pin_of(c, n, i + 1) {
-            return true;
-        }
-        i += 1;
-    }
-    false
-}
-
-fn limit_of(k: u8, lines: usize, n: usize) -> usize
-    ensures { λ r. ⌜ r ≡ cond (leb 2 k) n lines ⌝ }
-{
-    if 2 <= k { n } else { lines }
-}
-
-// Rows 4 and 5 of a record with so many pins.
-fn check_pins(c: &[u8], lines: usize, n: usize, k: u8, pins: usize) -> Check
-    requires { ⌜ (12 * n + 12 ≤ length (now c)) × (lines ≡ N (now c)) × (k ≡ kind (now c) n) × (pins ≡ pinCount (now c) n) × (pins ≤ 4) ⌝ }
-    ensures { λ r. ⌜ refusalOf r ≡ (refuse (strayBytes (now (c .entry)) n) 4 n else refuse (misnames (now (c .entry)) n) 5 n) ⌝ }
-{
-    let spare = either(
-        either(1 < mark_of(c, n), 0 < spare_of(c, n)),
-        unused_named(c, n, pins),
-    );
-    let wrong = misnames_from(c, n, pins, limit_of(k, lines, n));
-    Check::refuse(spare, 4, n).or(Check::refuse(wrong, 5, n))
-}
-
-// Rows 2 to 5.
-fn check_record(c: &[u8], lines: usize, n: usize) -> Check
-    requires { ⌜ (12 * n + 12 ≤ length (now c)) × (lines ≡ N (now c)) ⌝ }
-    ensures { λ r. ⌜ refusalOf r ≡ rows2to5 (now (c .entry)) n ⌝ }
-{
-    let k = kind_of(c, n);
-    let pins = pins_of(c, n);
-    if 9 < k {
-        return Check::Broken { rule: 2, at: n };
-    }
-    if !pins_fit(k, pins) {
-        return Check::Broken { rule: 3, at: n };
-    }
-    check_pins(c, lines, n, k, pins)
-}
-
-// Each record in turn.
-fn check_records(c: &[u8], lines: usize) -> Check
-    requires { ⌜ (12 * lines ≤ length (now c)) × (lines ≡ N (now c)) ⌝ }
-    ensures { λ r. ⌜ refusalOf r ≡ firstAnswer (λ n. rows2to5 (now (c .entry)) n) lines ⌝ }
-{
-    let mut n: usize = 0;
-    while n < lines {
-        let check = check_record(c, lines, n);
-        if let Check::Broken { rule, at } = check {
-            return Check::Broken { rule, at };
-        }
-        n += 1;
-    }
-    Check::Passed
 }
 
 pub fn one_if(b: bool) -> usize
@@ -231,38 +90,43 @@ pub fn sizes_of(c: &[u8], lines: usize) -> Sizes
     }
 }
 
-// Row 6.
-fn check_sizes(s: Sizes) -> Check
-    ensures { λ r. ⌜ ((c : List ℕ) → SizesOf c s → refusalOf r ≡ row6 c) ⌝ }
+// One more line number in a table of s, where `yes`; how many there are then.
+fn list_if(table: &mut [usize], s: usize, n: usize, yes: bool) -> usize
+    requires { ⌜ (s ≤ 4096) × (yes ≡ true → s < length (now table)) ⌝ }
+    ensures { λ r. ⌜ (r ≡ s + cond yes 1 0) × (now (table .exit) ≡ cond yes (set (now (table .entry)) s n) (now (table .entry))) ⌝ }
 {
-    let none = either(s.inputs == 0, s.outputs == 0);
-    let many = either(
-        either(either(none, 256 < s.inputs), 256 < s.flops),
-        256 < s.outputs,
-    );
-    Check::refuse(many, 6, 0)
-}
-
-// Row 1.
-fn check_length(size: usize) -> Check
-    ensures { λ r. ⌜ ((c : List ℕ) → length c ≡ size → refusalOf r ≡ row1 c) ⌝ }
-{
-    Check::refuse(
-        either(either(size == 0, size % 12 != 0), 49152 < size),
-        1,
-        0,
-    )
-}
-
-// Rows 1 to 6.
-pub fn check_circuit(c: &[u8]) -> Check
-    ensures { λ r. ⌜ refusalOf r ≡ circuitRows (now (c .entry)) ⌝ }
-{
-    let size = c.len();
-    let length = check_length(size);
-    if let Check::Broken { rule, at } = length {
-        return Check::Broken { rule, at };
+    if !yes {
+        return s;
     }
-    let lines = size / 12;
-    check_records(c, lines).or(check_sizes(sizes_of(c, lines)))
+    table[s] = n;
+    s + 1
+}
+
+// The lines whose records have 1 in this byte.
+fn list_lines(c: &[u8], lines: usize, byte: usize, table: &mut [usize])
+    requires { ⌜ (12 * lines ≤ length (now c)) × (lines ≤ 4096) × (byte < 12) × (countBelow (λ n. byteIsOne (now c) byte n) lines ≤ length (now table)) ⌝ }
+    ensures { λ _. ⌜ Listed (select (λ n. byteIsOne (now (c .entry)) byte n) lines) (now (table .exit)) ⌝ }
+{
+    let mut s: usize = 0;
+    let mut n: usize = 0;
+    while n < lines {
+        s = list_if(table, s, n, c[12 * n + byte] == 1);
+        n += 1;
+    }
+}
+
+// The lines of the flip-flops.
+pub fn list_flops(c: &[u8], lines: usize, table: &mut [usize])
+    requires { ⌜ (ValidCircuit (now c)) × (lines ≡ N (now c)) × (256 ≤ length (now table)) ⌝ }
+    ensures { λ _. ⌜ Listed (flipFlops (now (c .entry))) (now (table .exit)) ⌝ }
+{
+    list_lines(c, lines, 0, table);
+}
+
+// The output lines.
+pub fn list_outputs(c: &[u8], lines: usize, table: &mut [usize])
+    requires { ⌜ (ValidCircuit (now c)) × (lines ≡ N (now c)) × (256 ≤ length (now table)) ⌝ }
+    ensures { λ _. ⌜ Listed (outputLines (now (c .entry))) (now (table .exit)) ⌝ }
+{
+    list_lines(c, lines, 2, table);
 }

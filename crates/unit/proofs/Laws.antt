@@ -17,7 +17,8 @@ use Rattle.model.specs.Simulation.{isStuck, seen, pinSeen, pinsSeen, behind, va
 use Rattle.model.proofs.Runs.{length-valuesBelow, length-flipFlops, flipFlopLine-holds}
 use Rattle.lanes.specs.Lane.{Shows, Lane}
 use Rattle.lanes.proofs.Laws.{lane-at, lane-add, lane-none}
-use Rattle.unit.specs.Unit.{StuckAt, Stuck, Listed}
+use Rattle.circuit.specs.Table.{Listed}
+use Rattle.unit.specs.Unit.{StuckAt, Stuck}
 
 -- within the list the default does not matter
 pub getD-any : (l : List ℕ) (i d e : ℕ) → i < length l → getD l i d ≡ getD l i e

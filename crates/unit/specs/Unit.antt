@@ -1,4 +1,4 @@
--- Which fault each lane has, as the engine reads it, and tables of line numbers.
+-- Which fault each lane has, as the engine reads it.
 use Prim.Native.Nat.{ℕ, _+_, _*_, _<_, _≤_}
 use mathlib.Core.Path.{_≡_}
 use mathlib.Core.Bool.{false}
@@ -21,8 +21,3 @@ pub record StuckAt (t : ℕ) (masks : List ℕ) (row : ℕ) (f : Fault) (n : ℕ
 pub record Stuck (t : ℕ) (hits masks : List ℕ) (f : Fault) : Type 0 where
   pub lane : t < 64
   pub at : (n : ℕ) → n < length hits → StuckAt t masks (getD hits n 0) f n
-
--- a table begins with these line numbers
-pub record Listed (lines table : List ℕ) : Type 0 where
-  pub room : length lines ≤ length table
-  pub same : (i : ℕ) → i < length lines → getD table i 0 ≡ getD lines i 0

@@ -10,7 +10,8 @@ ghost use Rattle.model.specs.Accepted.{ValidCircuit};
 ghost use Rattle.model.specs.Values.{gate};
 ghost use Rattle.model.specs.Simulation.{seen, pinsSeen, behind, lineValues, nextState};
 ghost use Rattle.lanes.specs.Lane.{Holds, Lane};
-ghost use Rattle.unit.specs.Unit.{StuckAt, Stuck, Listed};
+ghost use Rattle.circuit.specs.Table.{Listed};
+ghost use Rattle.unit.specs.Unit.{StuckAt, Stuck};
 use lanes::Lanes;
 
 // The lanes at place m.

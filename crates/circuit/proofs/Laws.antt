@@ -1,0 +1,62 @@
+-- A table of line numbers, one line at a time, and which lines it lists.
+use mathlib.Core.Path.{_≡_, refl, sym, ap, _∙_}
+use Prim.Native.Nat.{ℕ, zero, suc, _+_, _*_, _<_, _≤_}
+use mathlib.Core.Bool.{Bool, true, false, cond}
+use mathlib.Core.List.{List, [], _∷_, _++_, append-nil}
+use lib.ListN.{getD, length, set, length-set, length-append, List·getD-append}
+use lib.Seq.{getD-at, getD-set-same, getD-set-other}
+use native.Mathlib.Omega.{arith}
+use native.Mathlib.Decide.{decLe}
+use Rattle.lists.specs.Scan.{select, countBelow}
+use Rattle.lists.proofs.Scan.{countBelow-less, length-select, select-turn}
+use Rattle.model.specs.Inputs.{N, isFlipFlop, isOutput, kind, outputMark, F, O, flipFlops, outputLines}
+use Rattle.circuit.specs.Table.{Listed, byteIsOne}
+
+pub listed-none : (P : ℕ → Bool) (table : List ℕ) → Listed (select P 0) table
+unfolding select
+listed-none P table = record { room = omega arith; same = λ i h. absurd (let z : ⊥ = omega arith in z) }
+
+listed-more : (xs table : List ℕ) (s n : ℕ) → length xs ≡ s → s < length table → Listed xs table → Listed (xs ++ (n ∷ [])) (set table s n)
+listed-more xs table s n e h l = record {
+  room = rw (length-append, length-set) (omega arith);
+  same = λ i k. elim (decLe (suc i) s) [
+    | yes g ↦ getD-set-other table s i n 0 (λ q. omega arith) ∙ l .same i (omega arith) ∙ sym (List·getD-append xs (n ∷ []) 0 i (omega arith))
+    | no g ↦ (
+        let last : i ≡ s = omega (arith, length-append xs (n ∷ [])) in
+        rw last (getD-set-same table s n 0 h ∙ sym (getD-at xs n [] 0 s e)))
+  ];
+}
+
+pub listed-turn : (P : ℕ → Bool) (table table′ : List ℕ) (s n : ℕ) (b : Bool) → b ≡ P n → s ≡ countBelow P n → (b ≡ true → s < length table)
+    → table′ ≡ cond b (set table s n) table → Listed (select P n) table → Listed (select P (n + 1)) table′
+listed-turn P table table′ s n b e c h t l = rw (t, select-turn P n, ← e) (go b h)
+  where
+    go : (b : Bool) → (b ≡ true → s < length table) → Listed (select P n ++ cond b (n ∷ []) []) (cond b (set table s n) table)
+    go true k = listed-more (select P n) table s n (length-select P n ∙ sym c) (k refl) l
+    go false k = rw append-nil l
+
+pub listed-room : (room room₀ s n lines : ℕ) (P : ℕ → Bool) → countBelow P lines ≤ room₀ → s ≡ countBelow P n → room ≡ room₀ → n < lines → P n ≡ true → s < room
+listed-room room room₀ s n lines P all c same h e = omega (arith, countBelow-less P n lines h e)
+
+pub length-turn : (table table′ : List ℕ) (s n : ℕ) (b : Bool) → table′ ≡ cond b (set table s n) table → length table′ ≡ length table
+length-turn table table′ s n true t = ap length t ∙ length-set table s n
+length-turn table table′ s n false t = ap length t
+
+select-same : (P R : ℕ → Bool) (n : ℕ) → ((m : ℕ) → P m ≡ R m) → (select P n ≡ select R n) × (countBelow P n ≡ countBelow R n)
+unfolding select countBelow
+select-same P R zero e = (refl, refl)
+select-same P R (suc n) e = let ih = select-same P R n e in (rw (ih .0, e n), rw (ih .1, e n))
+
+pub flops-bytes : (c : List ℕ) → (select (λ n. byteIsOne c 0 n) (N c) ≡ flipFlops c) × (countBelow (λ n. byteIsOne c 0 n) (N c) ≡ F c)
+unfolding flipFlops F
+flops-bytes c = select-same _ _ (N c) (λ n. byte-zero n)
+  where
+    byte-zero : (n : ℕ) → byteIsOne c 0 n ≡ isFlipFlop c n
+    byte-zero n = unfold byteIsOne isFlipFlop kind in (let e : 12 * n + 0 ≡ 12 * n = omega arith in rw e)
+
+pub outputs-bytes : (c : List ℕ) → (select (λ n. byteIsOne c 2 n) (N c) ≡ outputLines c) × (countBelow (λ n. byteIsOne c 2 n) (N c) ≡ O c)
+unfolding outputLines O
+outputs-bytes c = select-same _ _ (N c) (λ n. byte-two n)
+  where
+    byte-two : (n : ℕ) → byteIsOne c 2 n ≡ isOutput c n
+    byte-two n = unfold byteIsOne isOutput outputMark in refl
