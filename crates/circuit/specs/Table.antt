@@ -5,8 +5,9 @@ use mathlib.Core.Bool.{Bool}
 use mathlib.Core.List.{List}
 use lib.ListN.{getD, length}
 use lib.Dec.{eqb}
-use Rattle.model.specs.Inputs.{N, I, F, O}
+use Rattle.model.specs.Inputs.{N, I, F, O, Fault}
 use Rattle.circuit.specs.declared.Sizes.{Sizes}
+use Rattle.circuit.specs.declared.Fault as fault
 
 -- a table begins with these line numbers
 pub record Listed (lines table : List ℕ) : Type 0 where
@@ -23,3 +24,9 @@ pub record SizesOf (c : List ℕ) (s : Sizes) : Type 0 where
   pub inputs : s .inputs ≡ I c
   pub flops : s .flops ≡ F c
   pub outputs : s .outputs ≡ O c
+
+-- a fault of the definitions, as the code has it
+pub record FaultOf (f : Fault) (r : fault.Fault) : Type 0 where
+  pub line : r .line ≡ f .line
+  pub pin : r .pin ≡ f .pin
+  pub value : r .value ≡ f .value

@@ -1,12 +1,13 @@
-// Circuit records: their fields, the sizes of a circuit, and the tables of its flip-flops and outputs.
+// The fields of circuit and fault records, the sizes of a circuit, and the tables of its flip-flops and outputs.
 ghost use mathlib.Core.Bool.{true, cond};
 ghost use mathlib.Core.Path.{_≡_};
 ghost use Prim.Native.Nat.{ℕ, _+_, _*_, _<_, _≤_};
 ghost use lib.ListN.{length, set};
 ghost use Rattle.lists.specs.Scan.{countBelow, select};
-ghost use Rattle.model.specs.Inputs.{N, kind, pinCount, outputMark, spareByte, pinLine, flipFlops, outputLines};
+ghost use Rattle.lists.specs.Field.{word16};
+ghost use Rattle.model.specs.Inputs.{N, kind, pinCount, outputMark, spareByte, pinLine, flipFlops, outputLines, faultAt};
 ghost use Rattle.model.specs.Accepted.{ValidCircuit};
-ghost use Rattle.circuit.specs.Table.{SizesOf, Listed, byteIsOne};
+ghost use Rattle.circuit.specs.Table.{SizesOf, FaultOf, Listed, byteIsOne};
 
 // N, I, F and O.
 pub struct Sizes {
@@ -16,10 +17,26 @@ pub struct Sizes {
     pub outputs: usize,
 }
 
+pub struct Fault {
+    pub line: usize,
+    pub pin: usize,
+    pub value: u8,
+}
+
 pub fn wide(x: u8) -> usize
     ensures { λ r. ⌜ (r ≡ x) × (r < 256) ⌝ }
 {
     x as usize
+}
+
+// A 16-bit number, low byte first.
+pub fn word_at(bytes: &[u8], i: usize) -> usize
+    requires { ⌜ i + 2 ≤ length (now bytes) ⌝ }
+    ensures { λ r. ⌜ (r ≡ word16 (now (bytes .entry)) i) × (r < 65536) ⌝ }
+{
+    let low = wide(bytes[i]);
+    let high = wide(bytes[i + 1]);
+    low + 256 * high
 }
 
 pub fn kind_of(c: &[u8], n: usize) -> u8
@@ -55,9 +72,19 @@ pub fn pin_of(c: &[u8], n: usize, p: usize) -> usize
     requires { ⌜ (12 * n + 12 ≤ length (now c)) × (1 ≤ p) × (p ≤ 4) ⌝ }
     ensures { λ r. ⌜ (r ≡ pinLine (now (c .entry)) n p) × (r < 65536) ⌝ }
 {
-    let low = wide(c[12 * n + 2 + 2 * p]);
-    let high = wide(c[12 * n + 2 + 2 * p + 1]);
-    low + 256 * high
+    word_at(c, 12 * n + 2 + 2 * p)
+}
+
+// Fault j of a list.
+pub fn fault_of(fs: &[u8], j: usize) -> Fault
+    requires { ⌜ 4 * j + 4 ≤ length (now fs) ⌝ }
+    ensures { λ r. ⌜ FaultOf (faultAt (now (fs .entry)) j) r ⌝ }
+{
+    Fault {
+        line: word_at(fs, 4 * j),
+        pin: wide(fs[4 * j + 2]),
+        value: fs[4 * j + 3],
+    }
 }
 
 pub fn one_if(b: bool) -> usize

@@ -29,6 +29,11 @@ unfolding _else_
 else-is-none none b e h = h
 else-is-none (some a) b e h = absurd (Option·some-ne-none a e)
 
+pub else-assoc : {A : Type 0} (a b d : Option A) → (a else b) else d ≡ a else (b else d)
+unfolding _else_
+else-assoc none b d = refl
+else-assoc (some a) b d = refl
+
 pub else-found : {A : Type 0} (a b : Option A) (m : A) → a ≡ some m → a else b ≡ some m
 unfolding _else_
 else-found none b m e = absurd (Option·none-ne-some m e)

@@ -20,7 +20,7 @@ use Rattle.model.proofs.Total.{TotalRow, bit-total}
 use Rattle.model.proofs.Implication.{gate-kind}
 use Rattle.model.proofs.Sound.{Accepted}
 
-refuse-none : (b : Bool) (number position : ℕ) → refuse b number position ≡ none → b ≡ false
+pub refuse-none : (b : Bool) (number position : ℕ) → refuse b number position ≡ none → b ≡ false
 unfolding refuse
 refuse-none true number position e = absurd (Option·some-ne-none (number, position) e)
 refuse-none false number position e = refl

@@ -1,0 +1,78 @@
+use mathlib.Core.Path.{_≡_, refl, sym, ap, _∙_}
+use borrow.Author.Tests.{lt-ltb, le-ltb}
+use Rattle.model.specs.Refusals.{chooseRefusal, refuse, row12}
+use Rattle.job.proofs.Laws.{inputs-first, inputs-valid}
+use Rattle.lists.proofs.Scan.{else-found, else-skips}
+use Rattle.rules.specs.Check.{refusalOf}
+use Rattle.rules.specs.declared.Check.the-variants.{Passed}
+use borrow.Author.Needs.{needs}
+use Rattle.job.proofs.check_choose.Statement.{statement}
+use Rattle.job.proofs.check_choose.Tie as tie
+use Rattle.job.proofs.check_choose.Reads as reads
+use Rattle.job.proofs.check_choose.Lts as lts
+use Rattle.job.proofs.check_areas.Reads as check-areas-reads
+use Rattle.job.proofs.check_inputs.Reads as check-inputs-reads
+use Rattle.job.proofs.job_of.Reads as job-of-reads
+
+-- src/lib.rt:200:9
+check-inputs-requires : tie.Need-check-inputs-requires
+check-inputs-requires c κs = search needs
+
+-- src/lib.rt:201:28
+enum-known-inputs : tie.Need-enum-known-inputs
+enum-known-inputs c = search needs
+
+-- src/lib.rt:202:9
+returns : tie.Need-returns
+unfolding refusalOf chooseRefusal
+returns c =
+    sym (inputs-first _ _ _ _ _ _ ∙ else-found _ _ _ (sym (c .before .before .before .check-inputs .ensures) ∙ ap refusalOf (c .before .inputs .given .1)))
+
+enum-told : tie.Need-enum-told
+enum-told c = search needs
+
+-- src/lib.rt:205:9
+returns-2 : tie.Need-returns-2
+unfolding refusalOf chooseRefusal row12 refuse
+returns-2 c =
+    let told = c .before in
+    let passed : told .before .before .check-inputs .result ≡ Passed = told .enum-told .given .1 in
+    sym (inputs-first _ _ _ _ _ _ ∙ else-skips _ _ (sym (told .before .before .check-inputs .ensures) ∙ ap refusalOf passed) ∙ else-found _ _ _ (rw (lt-ltb _ _ (c .if1 .taken))))
+
+-- src/lib.rt:207:17
+job-of-requires : tie.Need-job-of-requires
+unfolding refusalOf
+job-of-requires c κs =
+    let passed : c .before .before .before .check-inputs .result ≡ Passed = c .before .enum-told .given .1 in
+    inputs-valid _ _ _ _ _ (sym (c .before .before .before .check-inputs .ensures) ∙ ap refusalOf passed)
+
+-- src/lib.rt:207:37
+mul-check-areas : tie.Need-mul-check-areas
+mul-check-areas c = search needs
+
+-- src/lib.rt:207:5
+check-areas-requires : tie.Need-check-areas-requires
+check-areas-requires c κs = search needs
+
+-- src/lib.rt:190:1
+returns-3 : tie.Need-returns-3
+unfolding refusalOf chooseRefusal row12 refuse
+returns-3 c =
+    let told = c .before .before .before in
+    let passed : told .before .before .check-inputs .result ≡ Passed = told .enum-told .given .1 in
+    c .check-areas .ensures _ _ (c .before .job-of .ensures .0)
+    ∙ sym (inputs-first _ _ _ _ _ _ ∙ else-skips _ _ (sym (told .before .before .check-inputs .ensures) ∙ ap refusalOf passed) ∙ else-skips _ _ (rw (le-ltb _ _ (c .before .before .if1 .left))))
+
+pub check-choose-spec : {M : Type 1} → statement M
+check-choose-spec =
+    tie.close
+    (tie.spec
+    check-inputs-requires
+    enum-known-inputs
+    returns
+    enum-told
+    returns-2
+    job-of-requires
+    mul-check-areas
+    check-areas-requires
+    returns-3)
