@@ -1,15 +1,22 @@
--- The rows that Simulate, Grade and Choose share, and the sizes of a job.
+-- The rows that Simulate, Grade and Choose share, what a call's answer stands for, and the sizes of a job.
 use mathlib.Core.Path.{_≡_}
 use Prim.Native.Nat.{ℕ, _≤_}
 use mathlib.Core.List.{List}
 use Rattle.lists.specs.Scan.{_else_}
 use Rattle.model.specs.Inputs.{N, I, F, O, L}
-use Rattle.model.specs.Refusals.{Refusal, circuitRows, row7, row8, row9, row10}
+use Rattle.model.specs.Refusals.{Refusal, Answer, done, refused, circuitRows, row7, row8, row9, row10}
 use Rattle.job.specs.declared.Job.{Job}
+use Rattle.job.specs.declared.Outcome.{Outcome}
+use Rattle.job.specs.declared.Outcome.the-variants.{Done, Refused}
 
 -- rows 1 to 10
 unfoldable pub inputRows : List ℕ → List ℕ → ℕ → ℕ → List ℕ → Refusal
 inputRows c t least most fs = circuitRows c else row7 c t else row8 t else row9 least most fs else row10 c fs
+
+-- what each case stands for
+unfoldable pub answerOf : Outcome → Answer
+answerOf (Done size) = done size
+answerOf (Refused rule at) = refused rule at
 
 -- the sizes of a circuit and a test
 pub record JobOf (c t : List ℕ) (j : Job) : Type 0 where

@@ -13,6 +13,12 @@ ghost use Rattle.rules.specs.Check.{refusalOf};
 ghost use Rattle.job.specs.Job.{inputRows, JobOf, Limited};
 use rules::Check;
 
+// What a call returns: how much it did, or number and position of the row that is broken.
+pub enum Outcome {
+    Done(usize),
+    Refused { rule: u8, at: usize },
+}
+
 // N, I, F, O and L.
 pub struct Job {
     pub lines: usize,

@@ -2,7 +2,7 @@
 use mathlib.Core.Path.{_≡_, refl, ap, _∙_}
 use Prim.Native.Nat.{ℕ, zero, suc, _+_, _*_, _≤_, _<_}
 use mathlib.Core.Bool.{Bool, true, false, cond}
-use mathlib.Core.List.{List, [], _∷_, _++_}
+use mathlib.Core.List.{List, [], _∷_, _++_, map}
 use mathlib.Core.Option.{Option, none, some, Option·some-injective, Option·none-ne-some, Option·some-ne-none}
 use lib.ListN.{getD, length, take, drop, length-append, length-drop}
 use lib.Seq.{take-all, drop-at, drop-append-le, take-append-le}
@@ -288,3 +288,10 @@ module _ (P : ℕ → Bool) where
 pub gather-turn : {A : Type 0} (g : ℕ → List A) (n : ℕ) → gather g (n + 1) ≡ gather g n ++ g n
 unfolding gather
 gather-turn g n = rw add-one
+
+pub map-take : (g : ℕ → ℕ) (xs : List ℕ) (n : ℕ) → n < length xs → map g (take (n + 1) xs) ≡ map g (take n xs) ++ (g (getD xs n 0) ∷ [])
+map-take g [] n h = absurd (let z : ⊥ = omega arith in z)
+map-take g (x ∷ xs) zero h = refl
+map-take g (x ∷ xs) (suc n) h =
+    let e : suc n + 1 ≡ suc (n + 1) = omega arith in
+    rw e (ap (_∷_ (g x)) (map-take g xs n (omega arith)))

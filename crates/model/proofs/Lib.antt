@@ -17,3 +17,4 @@ pub mod Records
 pub mod Best
 pub mod Choose
 pub mod Theorems
+pub mod ThreeValued

@@ -5,6 +5,7 @@ use mathlib.Core.Bool.{true}
 use mathlib.Core.List.{List}
 use lib.ListN.{getD, length}
 use Rattle.model.specs.Inputs.{N, kind, pinCount, pinLine, isFlipFlop, isGate, I, F, O, L, Fault}
+use Rattle.model.specs.Values.{X}
 
 -- of a circuit that rows 1 to 6 pass
 pub record ValidCircuit (c : List ℕ) : Type 0 where
@@ -32,3 +33,7 @@ pub record ValidFault (c : List ℕ) (f : Fault) : Type 0 where
   pub line : f .line < N c
   pub pin : f .pin ≤ pinCount c (f .line)
   pub value : f .value ≤ 1
+
+-- every value of a row is 0, 1 or X
+pub record ThreeValued (vs : List ℕ) : Type 0 where
+  pub at : (m : ℕ) → getD vs m X ≤ 2

@@ -9,7 +9,7 @@ use borrow.Author.Tests.{eq-eqb, ne-eqb, le-leb}
 use lib.ListN.{length, getD, set, take, length-map, length-take}
 use lib.Seq.{take-length}
 use Rattle.lists.specs.Scan.{countBelow, tabulate}
-use Rattle.lists.proofs.Scan.{countBelow-less}
+use Rattle.lists.proofs.Scan.{map-take, countBelow-less}
 use Rattle.model.specs.Inputs.{N, kind, pinCount, pinLine, isInput, isFlipFlop, isGate, I, F, flipFlops, flipFlopLine, Fault}
 use Rattle.model.specs.Accepted.{ValidCircuit}
 use Rattle.model.specs.Values.{X, evenGate, gate, invertIf, inverts}
@@ -108,13 +108,6 @@ module _ (c : List ℕ) (f : Fault) (inputs st : List ℕ) where
   values-all t ws n e h = rw e at h
 
 -- ---- the loop over the flip-flops
-map-take : (g : ℕ → ℕ) (xs : List ℕ) (n : ℕ) → n < length xs → map g (take (n + 1) xs) ≡ map g (take n xs) ++ (g (getD xs n 0) ∷ [])
-map-take g [] n h = absurd (let z : ⊥ = omega arith in z)
-map-take g (x ∷ xs) zero h = refl
-map-take g (x ∷ xs) (suc n) h =
-    let e : suc n + 1 ≡ suc (n + 1) = omega arith in
-    rw e (ap (_∷_ (g x)) (map-take g xs n (omega arith)))
-
 module _ (c : List ℕ) (f : Fault) (vs : List ℕ) where
   -- the next state of the first s flip-flops
   unfoldable pub nextOf : ℕ → List ℕ

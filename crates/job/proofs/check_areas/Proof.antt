@@ -1,5 +1,5 @@
 use Rattle.job.proofs.Laws.{area-limit}
-use mathlib.Core.Path.{_≡_, refl, sym, ap, _∙_}
+use mathlib.Core.Path.{_∙_}
 use native.Mathlib.Omega.{arith}
 use Rattle.model.specs.Refusals.{row13, row14, workBytes}
 use borrow.Author.Needs.{needs}

@@ -1,5 +1,5 @@
 use native.Mathlib.Nat.{mul-le-mul}
-use mathlib.Core.Path.{_≡_, refl, sym, ap, _∙_}
+use mathlib.Core.Path.{_≡_, sym, ap, _∙_}
 use native.Mathlib.Omega.{arith}
 use Rattle.model.specs.Refusals.{simulateRefusal}
 use Rattle.job.proofs.Laws.{inputs-first, inputs-valid}

@@ -1,5 +1,5 @@
 use borrow.Author.Tests.{lt-ltb, le-ltb}
-use mathlib.Core.Path.{_≡_, refl, sym, ap, _∙_}
+use mathlib.Core.Path.{_∙_}
 use Rattle.model.specs.Refusals.{faultFits}
 use borrow.Author.Needs.{needs}
 use Rattle.job.proofs.fault_fits.Statement.{statement}

@@ -1,0 +1,79 @@
+-- A group of faults, lane by lane: which fault each lane has, and which lines have a row.
+use mathlib.Core.Path.{_≡_, ap, sym, _∙_}
+use mathlib.Core.Bool.{cond}
+use mathlib.Core.List.{List}
+use Prim.Native.Nat.{ℕ, suc, _+_, _*_, _<_, _≤_}
+use native.Mathlib.Omega.{arith}
+use native.Mathlib.Decide.{decLe}
+use borrow.Author.Tests.{eq-eqb, ne-eqb, lt-ltb, le-ltb}
+use lib.Dec.{eqb}
+use lib.ListN.{length, getD, set}
+use Rattle.model.specs.Inputs.{N, faultCount, faultAt}
+use Rattle.model.specs.Accepted.{ValidCircuit, ValidFault}
+use Rattle.model.specs.Simulation.{noFault}
+use Rattle.faults.specs.Given.{Blank, InRows, Group, laneFault, Named, Given}
+use Rattle.faults.proofs.Laws.{by-eq, set-zero, blank-stuck, blank-rows}
+
+-- faults of an accepted list
+pub valid-group : (c fs : List ℕ) (from count lines : ℕ) → ValidCircuit c → ((j : ℕ) → j < faultCount fs → ValidFault c (faultAt fs j)) → from + count ≤ faultCount fs
+    → count ≤ 64 → N c ≤ lines → Group fs from count lines
+valid-group c fs from count lines circuit faults all few wide =
+    let at : (s : ℕ) → s < count → ValidFault c (faultAt fs (from + s)) = λ s h. faults (from + s) (omega arith) in record {
+      few = few;
+      room = whole;
+      line = λ s h. omega (arith, at s h .line);
+      pin = λ s h. omega (arith, at s h .pin, circuit .few (faultAt fs (from + s) .line) (at s h .line));
+      value = λ s h. at s h .value;
+    }
+  where
+    whole : 4 * (from + count) ≤ length fs
+    whole = unfold faultCount in omega arith
+
+-- the first lanes of a group, one more at a time
+module _ (fs : List ℕ) (from : ℕ) where
+  pub lane-free : (t s : ℕ) → t ≤ s → laneFault fs from t s ≡ noFault
+  unfolding laneFault
+  lane-free t s h = rw (le-ltb s t h)
+
+  pub lane-taken : (count s : ℕ) → s < count → laneFault fs from count s ≡ faultAt fs (from + s)
+  unfolding laneFault
+  lane-taken count s h = rw (lt-ltb s count h)
+
+  lane-more : (t s : ℕ) → cond (eqb s t) (faultAt fs (from + t)) (laneFault fs from t s) ≡ laneFault fs from (t + 1) s
+  unfolding laneFault
+  lane-more t s = by-eq s t
+      (λ e. rw (eq-eqb s t e, lt-ltb s (t + 1) (omega arith), e))
+      (λ e. rw (ne-eqb s t e) (elim (decLe (suc s) t) [
+        | yes g ↦ rw (lt-ltb s t (omega arith), lt-ltb s (t + 1) (omega arith))
+        | no g ↦ rw (le-ltb s t (omega arith), le-ltb s (t + 1) (omega arith))
+      ]))
+
+  pub group-none : (hits masks : List ℕ) → Blank hits masks → length hits ≤ 65536 → InRows 0 hits masks (λ s. laneFault fs from 0 s)
+  group-none hits masks b l = blank-rows hits masks (λ s. laneFault fs from 0 s) b (λ s h. rw (lane-free 0 s (omega arith)) (blank-stuck s hits masks b h l))
+
+  pub group-more : (t : ℕ) (hits masks : List ℕ) → InRows (t + 1) hits masks (λ s. cond (eqb s t) (faultAt fs (from + t)) (laneFault fs from t s))
+      → InRows (t + 1) hits masks (λ s. laneFault fs from (t + 1) s)
+  group-more t hits masks b = record { rows = b .rows; apart = b .apart; words = b .words; lanes = λ s h. rw (← (lane-more t s)) (b .lanes s h) }
+
+-- the lines that the faults name, one fault more at the end, or one less at the beginning
+module _ (fs : List ℕ) (a b : ℕ) (hits hits′ : List ℕ) (line : ℕ) (old : Named fs a b hits) where
+  pub named-more : (b′ : ℕ) → b′ ≡ b + 1 → a ≤ b → line ≡ faultAt fs b .line → ((n : ℕ) → (n ≡ line → ⊥) → getD hits′ n 0 ≡ getD hits n 0) → Named fs a b′ hits′
+  named-more b′ e l el kept = record {
+    none = λ n h. kept n (λ g. h b l (omega arith) (sym el ∙ sym g)) ∙ old .none n (λ j p q. h j p (omega arith));
+  }
+
+  pub named-less : (a′ : ℕ) → a′ ≡ a + 1 → line ≡ faultAt fs a .line → line < length hits → hits′ ≡ set hits line 0 → Named fs a′ b hits′
+  named-less a′ e el l eh = record {
+    none = λ n h. rw eh (set-zero hits line n l
+        (λ g. old .none n (λ j p q k. by-eq j a (λ w. g (sym k ∙ ap (λ (x : ℕ). faultAt fs x .line) w ∙ sym el)) (λ w. h j (omega arith) q k))));
+  }
+
+pub named-none : (fs : List ℕ) (a b : ℕ) (hits : List ℕ) → b ≤ a → Named fs a b hits → (n : ℕ) → getD hits n 0 ≡ 0
+named-none fs a b hits h old n = old .none n (λ j p q e. omega arith)
+
+pub blank-named : (fs : List ℕ) (a b : ℕ) (hits masks : List ℕ) → Blank hits masks → Named fs a b hits
+blank-named fs a b hits masks b′ = record { none = λ n h. b′ .rows n }
+
+pub group-all : (fs : List ℕ) (from count t : ℕ) (hits masks : List ℕ) → t ≡ count → InRows t hits masks (λ s. laneFault fs from t s) → Named fs from (from + t) hits
+    → Given fs from count hits masks
+group-all fs from count t hits masks e b lines = rw (← e) record { lanes = b .lanes; lines = lines; words = b .words }

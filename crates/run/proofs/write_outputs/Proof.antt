@@ -1,0 +1,122 @@
+use mathlib.Core.Path.{_≡_, refl}
+use mathlib.Core.List.{List, _++_}
+use Prim.Native.Nat.{ℕ, _+_, _-_, _<_, _≤_}
+use lib.ListN.{getD, length, length-set}
+use native.Mathlib.Omega.{arith}
+use Rattle.lists.specs.Field.{overwritten}
+use Rattle.model.specs.Inputs.{N, outputLines, Fault}
+use Rattle.model.specs.Values.{X}
+use Rattle.model.specs.Accepted.{ThreeValued}
+use Rattle.lanes.specs.Lane.{Lane}
+use Rattle.unit.proofs.Laws.{lane-read}
+use Rattle.run.proofs.Laws.{OutputAt, output-at, shownOf, shown-none, shown-more, shown-all, three-at}
+use Rattle.run.proofs.write_outputs.Statement.{statement}
+use Rattle.run.proofs.write_outputs.Tie as tie
+use Rattle.run.proofs.write_outputs.Reads as reads
+use Rattle.run.proofs.write_outputs.Lts as lts
+use Rattle.lanes.proofs.Lanes.lane.Reads as lane-reads
+use Rattle.unit.proofs.lanes_at.Reads as lanes-at-reads
+
+abbrev Inv-loop : tie.InvT-loop
+Inv-loop c outs count words area₀ place o₀ area o =
+    (o ≤ count) × (length area ≡ length area₀)
+    × ((f : Fault) (vs done old : List ℕ) → Lane 0 words vs → length vs ≡ N c → ThreeValued vs → area₀ ≡ overwritten done old → length done ≡ place
+    → area ≡ overwritten (done ++ shownOf c f vs o) old)
+
+abbrev μ-loop : tie.MeasureT-loop
+μ-loop c outs count words area₀ place o₀ area o = count - o
+
+at : (c : tie.In-loop Inv-loop μ-loop) → OutputAt (c .before .before .before .before .before .before .args .c .now)
+    (c .before .before .before .before .before .before .args .outs .now) (c .before .loop .o)
+at c =
+    let start = c .before .before .before .before .before .before in
+    output-at _ _ (start .pre .1) _ (omega (arith, c .loop-test .taken, start .pre .2))
+
+inside : (c : tie.After-lane Inv-loop μ-loop) → c .before .before .before .before .before .before .before .before .before .args .place + c .before .before .before .before .loop .o < length (c .before .before .before .before .loop .area)
+inside c =
+    let turn = c .before .before .before in
+    let start = turn .before .before .before .before .before .before in
+    omega (arith, turn .loop-test .taken, turn .before .loop .inv .1, start .pre .4)
+
+-- src/lib.rt:53:5
+loop-holds : tie.Need-loop-holds Inv-loop μ-loop
+loop-holds c = (omega arith, refl, λ f vs done old l e w a d. shown-none _ f vs _ done old a)
+
+-- src/lib.rt:54:39
+mul-lanes-at : tie.Need-mul-lanes-at Inv-loop μ-loop
+mul-lanes-at c = let start = c .before .before .before .before .before .before in omega (arith, start .pre .0 .outputs, start .pre .2)
+
+-- src/lib.rt:54:39
+shared-slice-read-lanes-at : tie.Need-shared-slice-read-lanes-at Inv-loop μ-loop
+shared-slice-read-lanes-at c = at (c .before) .place
+
+-- src/lib.rt:54:13
+lanes-at-requires : tie.Need-lanes-at-requires Inv-loop μ-loop
+lanes-at-requires c κs = omega (arith, at (c .before) .below, c .before .before .before .before .before .before .before .pre .3)
+
+-- src/lib.rt:55:27
+lane-requires : tie.Need-lane-requires Inv-loop μ-loop
+lane-requires c κs = omega arith
+
+-- src/lib.rt:55:14
+add-area : tie.Need-add-area Inv-loop μ-loop
+add-area c = let start = c .before .before .before .before .before .before .before .before .before in omega (arith, start .pre .4, c .before .before .before .loop-test .taken)
+
+-- src/lib.rt:55:9
+slice-write-area : tie.Need-slice-write-area Inv-loop μ-loop
+slice-write-area c = inside c
+
+-- src/lib.rt:56:9
+add-o : tie.Need-add-o Inv-loop μ-loop
+add-o c = omega (arith, c .before .before .before .loop-test .taken)
+
+-- src/lib.rt:53:5
+loop-less : tie.Need-loop-less Inv-loop μ-loop
+loop-less c = omega (arith, c .before .before .before .loop-test .taken)
+
+-- src/lib.rt:53:5
+loop-again : tie.Need-loop-again Inv-loop μ-loop
+loop-again c =
+    let turn = c .before .before .before in
+    let loop = turn .before .loop in
+    let start = turn .before .before .before .before .before .before in
+    let output = at turn in
+    let read = c .before .lanes-at .ensures in
+    let line = getD (outputLines (start .args .c .now)) (loop .o) 0 in (
+      omega (arith, turn .loop-test .taken),
+      simp length-set (loop .inv .1),
+      λ f vs done old l e w a d.
+          shown-more _ f vs _ _ done old _ _ _ refl
+          (c .lane .ensures (getD vs line X) (three-at vs line w) (lane-read 0 _ vs _ _ _ line l (read .0) (read .1) (output .line) (omega (arith, output .below, output .line, e))))
+          d (omega (arith, turn .loop-test .taken, start .pre .2)) (inside c) (loop .inv .2 f vs done old l e w a d),
+    )
+
+-- src/lib.rt:40:1
+same-length : tie.Need-same-length Inv-loop μ-loop
+same-length c = c .before .loop .inv .1
+
+-- src/lib.rt:40:1
+returns : tie.Need-returns Inv-loop μ-loop
+returns c = λ f vs done old l e w a d.
+    let start = c .before .before .before .before .before .before in
+    let all = shown-all (start .args .c .now) f vs (c .before .loop .o) (omega (arith, c .before .loop .inv .0, c .loop-test .left, start .pre .2)) in
+    rw (← all) (c .before .loop .inv .2 f vs done old l e w a d)
+
+pub write-outputs-spec : {M : Type 1} → statement M
+write-outputs-spec =
+    tie.close
+    (tie.spec
+    Inv-loop
+    μ-loop
+    loop-holds
+    mul-lanes-at
+    shared-slice-read-lanes-at
+    lanes-at-requires
+    lane-requires
+    add-area
+    slice-write-area
+    add-o
+    loop-less
+    loop-again
+    same-length
+    returns)

@@ -1,0 +1,76 @@
+// The call Simulate: the plain responses of a circuit, with at most one fault, to a test.
+ghost use mathlib.Core.List.{List};
+ghost use mathlib.Core.Path.{_≡_};
+ghost use Prim.Native.Nat.{ℕ, _<_, _≤_};
+ghost use lib.ListN.{length};
+ghost use Rattle.lists.specs.Field.{overwritten};
+ghost use Rattle.model.specs.Inputs.{faultAt, faultCount};
+ghost use Rattle.model.specs.Simulate.{onlyFault, simulateBytes, simulateAnswer, simulateArea};
+ghost use Rattle.faults.specs.Given.{Blank};
+ghost use Rattle.job.specs.Job.{answerOf, JobOf};
+ghost use Rattle.unit.specs.Unit.{Stuck};
+ghost use Rattle.simulate.specs.Simulate.{Accepted};
+use job::Job;
+use job::Outcome;
+use rules::Check;
+
+// The fault of the list, if there is one, in all lanes.
+fn give_only(fs: &[u8], hits: &mut [u8], masks: &mut [u64])
+    requires { ⌜ (Blank (now hits) (now masks)) × (length (now hits) ≤ 65536) × (2560 ≤ length (now masks))
+        × (0 < faultCount (now fs) → (faultAt (now fs) 0 .line < length (now hits)) × (faultAt (now fs) 0 .pin < 5) × (faultAt (now fs) 0 .value < 2)) ⌝ }
+    ensures { λ _. ⌜ Stuck 0 (now (hits .exit)) (now (masks .exit)) (onlyFault (now (fs .entry))) ⌝ }
+{
+    if 4 <= fs.len() {
+        let f = circuit::fault_of(fs, 0);
+        faults::give_all(hits, masks, f.line, f.pin, f.value);
+    }
+}
+
+// The responses of an accepted job.
+fn respond(c: &[u8], job: Job, t: &[u8], fs: &[u8], result: &mut [u8])
+    requires { ⌜ (Accepted (now c) (now t) (now fs) (length (now result))) × (JobOf (now c) (now t) job) ⌝ }
+    ensures { λ _. ⌜ now (result .exit) ≡ overwritten (simulateBytes (now (c .entry)) (now (t .entry)) (now (fs .entry))) (now (result .entry)) ⌝ }
+{
+    let mut flops = [0usize; 256];
+    let mut outs = [0usize; 256];
+    let mut hits = [0u8; 4096];
+    let mut masks = [0u64; 2560];
+    let mut words = [0u64; 8192];
+    let mut state = [0u64; 512];
+    circuit::list_flops(c, job.lines, &mut flops);
+    circuit::list_outputs(c, job.lines, &mut outs);
+    give_only(fs, &mut hits, &mut masks);
+    run::write_responses(
+        c,
+        job,
+        t,
+        &flops,
+        &outs,
+        &hits,
+        &masks,
+        &mut words,
+        &mut state,
+        result,
+    );
+}
+
+pub fn simulate(
+    circuit: &[u8],
+    test: &[u8],
+    faults: &[u8],
+    work: &mut [u8],
+    result: &mut [u8],
+) -> Outcome
+    ensures answers { λ r. ⌜ answerOf r ≡ simulateAnswer (now (circuit .entry)) (now (test .entry)) (now (faults .entry)) (length (now (work .entry))) (length (now (result .entry))) ⌝ }
+    ensures writes { λ r. ⌜ now (result .exit) ≡ simulateArea (now (circuit .entry)) (now (test .entry)) (now (faults .entry)) (length (now (work .entry))) (now (result .entry)) ⌝ }
+    ensures keeps { λ r. ⌜ now (work .exit) ≡ now (work .entry) ⌝ }
+{
+    let check = job::check_simulate(circuit, test, faults, work.len(), result.len());
+    if let Check::Broken { rule, at } = check {
+        return Outcome::Refused { rule, at };
+    }
+    let job = job::job_of(circuit, test);
+    let size = job.units * job.outputs;
+    respond(circuit, job, test, faults, result);
+    Outcome::Done(size)
+}
