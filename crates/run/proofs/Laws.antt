@@ -1,5 +1,5 @@
 -- What one turn of each loop adds.
-use mathlib.Core.Path.{_≡_, refl, sym, ap, _∙_}
+use mathlib.Core.Path.{_≡_, sym, ap, _∙_}
 use Prim.Native.Nat.{ℕ, zero, suc, _+_, _-_, _*_, _<_, _≤_}
 use mathlib.Core.Bool.{true}
 use mathlib.Core.List.{List, [], _∷_, _++_, map, append-nil, append-assoc}
@@ -8,7 +8,7 @@ use lib.Seq.{take-length}
 use native.Mathlib.Numerals.{add-one}
 use native.Mathlib.Omega.{arith}
 use native.Mathlib.Nat.{mul-le-mul-left, mul-suc, mul-comm}
-use Rattle.lists.specs.Scan.{gather, countBelow}
+use Rattle.lists.specs.Scan.{gather}
 use Rattle.lists.specs.Field.{overwritten}
 use Rattle.lists.proofs.Scan.{All, all-at, select-all, length-select, length-gather, gather-turn, map-take, countBelow-bound}
 use Rattle.lists.proofs.Field.{overwritten-more}

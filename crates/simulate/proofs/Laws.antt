@@ -1,5 +1,5 @@
 -- What the rows of Simulate give, and areas of zeros: no fault, and every flip-flop at X.
-use mathlib.Core.Path.{_≡_, refl, sym, ap, _∙_}
+use mathlib.Core.Path.{_≡_}
 use Prim.Native.Nat.{ℕ, suc, _+_, _*_, _/_, _<_, _≤_}
 use mathlib.Core.List.{List}
 use mathlib.Core.Option.{none, some}
