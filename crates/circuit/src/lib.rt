@@ -1,7 +1,7 @@
 // The fields of circuit and fault records, the sizes of a circuit, and the tables of its flip-flops and outputs.
 ghost use mathlib.Core.Bool.{true, cond};
 ghost use mathlib.Core.Path.{_≡_};
-ghost use Prim.Native.Nat.{ℕ, _+_, _*_, _<_, _≤_};
+ghost use Prim.Native.Nat.{_+_, _*_, _<_, _≤_};
 ghost use lib.ListN.{length, set};
 ghost use Rattle.lists.specs.Scan.{countBelow, select};
 ghost use Rattle.lists.specs.Field.{word16};

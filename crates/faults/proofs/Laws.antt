@@ -2,11 +2,12 @@
 use mathlib.Core.Path.{_≡_, refl, ap, sym, _∙_}
 use mathlib.Core.Bool.{Bool, true, false, cond, _&&_}
 use mathlib.Core.List.{List}
-use Prim.Native.Nat.{ℕ, _+_, _*_, _<_, _≤_}
+use Prim.Native.Nat.{ℕ, suc, _+_, _*_, _<_, _≤_}
 use native.Mathlib.Omega.{arith}
+use native.Mathlib.Decide.{decLe}
 use borrow.Author.Tests.{eq-eqb, ne-eqb, eqb-true, eqb-false}
 use lib.Dec.{eqb}
-use lib.ListN.{length, getD, set, length-set}
+use lib.ListN.{length, getD, set, length-set, replicate, length-replicate, getD-replicate, List·getD-eq-default}
 use lib.Seq.{getD-set-same, getD-set-other}
 use Rattle.model.specs.Inputs.{Fault}
 use Rattle.model.specs.Values.{X}
@@ -284,3 +285,13 @@ lane-given t hits hits′ masks masks′ line pin stuck row z o opens er em ht l
     rw em
     (faulted (t + 1) hits′ masks faults (λ s. eqb s t) f row pin z o (omega (arith, opens .size)) ep lp (omega arith) (rw el er) (λ e. opens .row (sym er ∙ e)) (omega arith)
     (λ s w h old e. rw ev (new s w h old (λ g. e (eq-eqb s t g)))) (λ s n p e h. rw (eqb-true s t e, idle) (stuck-none n p (omega (arith, opens .size)))) (opens .rows faults b))
+
+-- ---- areas of zeros
+zero-at : (n i : ℕ) → _≡_ {A = ℕ} (getD (replicate n 0) i 0) 0
+zero-at n i = elim (decLe (suc i) n) [
+  | yes g ↦ getD-replicate n i 0 0 g
+  | no g ↦ List·getD-eq-default (replicate n 0) 0 (rw (length-replicate {A = ℕ} n 0) (omega arith))
+]
+
+pub blank-zeros : (n m : ℕ) → Blank (replicate n 0) (replicate m 0)
+blank-zeros n m = record { rows = λ i. zero-at n i; words = λ i. zero-at m i }

@@ -7,13 +7,13 @@ ghost use lib.Dec.{eqb};
 ghost use lib.ListN.{length, getD};
 ghost use Rattle.model.specs.Inputs.{Fault, faultAt};
 ghost use Rattle.model.specs.Simulation.{noFault};
-ghost use Rattle.unit.specs.Unit.{Stuck};
+ghost use Rattle.unit.specs.Unit.{Stuck, MaskRoom};
 ghost use Rattle.faults.specs.Given.{Blank, OnlyAt, RowsTo, InRows, Group, Named, Given};
 use lanes::Lanes;
 
 // One and the same fault in all lanes.
 pub fn give_all(hits: &mut [u8], masks: &mut [u64], line: usize, pin: usize, stuck: u8)
-    requires { ⌜ (Blank (now hits) (now masks)) × (line < length (now hits)) × (2560 ≤ length (now masks)) × (pin < 5) × (stuck < 2) ⌝ }
+    requires { ⌜ (Blank (now hits) (now masks)) × (line < length (now hits)) × (MaskRoom (now masks)) × (pin < 5) × (stuck < 2) ⌝ }
     ensures { λ _. ⌜ (OnlyAt line pin (now (hits .exit)) (now (masks .exit)))
         × ((t : ℕ) (f : Fault) → t < 64 → f .line ≡ line → f .pin ≡ pin → f .value ≡ stuck → Stuck t (now (hits .exit)) (now (masks .exit)) f) ⌝ }
 {
@@ -22,7 +22,7 @@ pub fn give_all(hits: &mut [u8], masks: &mut [u64], line: usize, pin: usize, stu
 }
 
 pub fn take_all(hits: &mut [u8], masks: &mut [u64], line: usize, pin: usize)
-    requires { ⌜ (OnlyAt line pin (now hits) (now masks)) × (line < length (now hits)) × (2560 ≤ length (now masks)) × (pin < 5) ⌝ }
+    requires { ⌜ (OnlyAt line pin (now hits) (now masks)) × (line < length (now hits)) × (MaskRoom (now masks)) × (pin < 5) ⌝ }
     ensures { λ _. ⌜ Blank (now (hits .exit)) (now (masks .exit)) ⌝ }
 {
     hits[line] = 0;
@@ -31,7 +31,7 @@ pub fn take_all(hits: &mut [u8], masks: &mut [u64], line: usize, pin: usize)
 
 // One lane more, t, with a fault of its own; its line has a row already, or gets row t + 1.
 pub fn give(hits: &mut [u8], masks: &mut [u64], t: usize, line: usize, pin: usize, stuck: u8)
-    requires { ⌜ (t < 64) × (line < length (now hits)) × (length (now hits) ≤ 65536) × (2560 ≤ length (now masks)) × (pin < 5) × (stuck < 2) ⌝ }
+    requires { ⌜ (t < 64) × (line < length (now hits)) × (length (now hits) ≤ 65536) × (MaskRoom (now masks)) × (pin < 5) × (stuck < 2) ⌝ }
     ensures { λ _. ⌜ ((n : ℕ) → (n ≡ line → ⊥) → getD (now (hits .exit)) n 0 ≡ getD (now (hits .entry)) n 0)
         × ((f : Fault) (faults : ℕ → Fault) → f .line ≡ line → f .pin ≡ pin → f .value ≡ stuck → faults t ≡ noFault → InRows t (now (hits .entry)) (now (masks .entry)) faults
         → InRows (t + 1) (now (hits .exit)) (now (masks .exit)) (λ s. cond (eqb s t) f (faults s))) ⌝ }
@@ -54,7 +54,7 @@ fn line_of(fs: &[u8], j: usize) -> usize
 
 // A group of faults, one to a lane from lane 0 on.
 pub fn give_group(fs: &[u8], from: usize, count: usize, hits: &mut [u8], masks: &mut [u64])
-    requires { ⌜ (Blank (now hits) (now masks)) × (Group (now fs) from count (length (now hits))) × (length (now hits) ≤ 65536) × (2560 ≤ length (now masks)) ⌝ }
+    requires { ⌜ (Blank (now hits) (now masks)) × (Group (now fs) from count (length (now hits))) × (length (now hits) ≤ 65536) × (MaskRoom (now masks)) ⌝ }
     ensures { λ _. ⌜ Given (now (fs .entry)) from count (now (hits .exit)) (now (masks .exit)) ⌝ }
 {
     let mut t: usize = 0;
@@ -82,7 +82,7 @@ fn close_lines(fs: &[u8], from: usize, count: usize, hits: &mut [u8])
 
 // Rows 1 to count are cleared.
 fn clear_rows(masks: &mut [u64], count: usize)
-    requires { ⌜ (RowsTo count (now masks)) × (count ≤ 64) × (2560 ≤ length (now masks)) ⌝ }
+    requires { ⌜ (RowsTo count (now masks)) × (count ≤ 64) × (MaskRoom (now masks)) ⌝ }
     ensures { λ _. ⌜ ((i : ℕ) → getD (now (masks .exit)) i 0 ≡ 0) ⌝ }
 {
     let mut i: usize = 10;
@@ -93,7 +93,7 @@ fn clear_rows(masks: &mut [u64], count: usize)
 }
 
 pub fn take_group(fs: &[u8], from: usize, count: usize, hits: &mut [u8], masks: &mut [u64])
-    requires { ⌜ (Group (now fs) from count (length (now hits))) × (Given (now fs) from count (now hits) (now masks)) × (2560 ≤ length (now masks)) ⌝ }
+    requires { ⌜ (Group (now fs) from count (length (now hits))) × (Given (now fs) from count (now hits) (now masks)) × (MaskRoom (now masks)) ⌝ }
     ensures { λ _. ⌜ Blank (now (hits .exit)) (now (masks .exit)) ⌝ }
 {
     close_lines(fs, from, count, hits);

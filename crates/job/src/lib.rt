@@ -1,13 +1,12 @@
 // Rows 7 to 15 of the table of refusals, and for each call the rows that it takes, in the table's order. A row is looked at only where
 // no row above it is broken.
-ghost use mathlib.Core.Bool.{not};
 ghost use mathlib.Core.List.{List};
 ghost use mathlib.Core.Path.{_≡_};
 ghost use Prim.Native.Nat.{ℕ, _+_, _*_, _<_, _≤_};
 ghost use lib.ListN.{length};
 ghost use Rattle.lists.specs.Scan.{_else_};
 ghost use Rattle.model.specs.Inputs.{N, I, L, faultAt, faultCount};
-ghost use Rattle.model.specs.Refusals.{circuitRows, row7, row8, row9, faultFits, row10, row11, row12, row13, row14, row15, simulateRefusal, gradeRefusal, chooseRefusal, groupRefusal};
+ghost use Rattle.model.specs.Refusals.{row7, row8, row9, faultFits, row10, row11, row13, row14, simulateRefusal, gradeRefusal, chooseRefusal, groupRefusal};
 ghost use Rattle.model.specs.Accepted.{ValidCircuit, ValidTest};
 ghost use Rattle.rules.specs.Check.{refusalOf};
 ghost use Rattle.job.specs.Job.{inputRows, JobOf, Limited};

@@ -10,7 +10,7 @@ use borrow.Author.Tests.{eqb-true, eq-eqb}
 use lib.ListN.{getD, length, set, length-set, length-append, List·getD-append}
 use lib.Seq.{getD-at, getD-set-same, getD-set-other}
 use lib.Bits.{bitAnd, bitOr, bitXor}
-use Rattle.model.specs.Values.{invert, andPair, xorPair, andOf, orOf, invertAll, xorOf, evenGate}
+use Rattle.model.specs.Values.{invert, andPair, xorPair, andOf, orOf, invertAll, xorOf, evenGate, opposes}
 use Rattle.lanes.specs.Lane.{bit, is0, is1, Shows, Lane}
 use Rattle.lanes.proofs.Bits.{bit-and, bit-or, bit-xor, bit-none, bit-all, bit-one, xorB}
 
@@ -145,24 +145,33 @@ module _ (t : ℕ) (ws vs : List ℕ) where
   unfolding Lane
   lane-none e m h = absurd (let z : ⊥ = omega arith in z)
 
--- the halves of the kinds
-module _ (t z o : ℕ) where
-  pub start-1 : (k : ℕ) → k ≡ 1 → Shows t z o 2 → Shows t z o (evenGate k [])
-  unfolding evenGate
-  start-1 k e h = rw e h
+-- the halves of the kinds: one pin alone, and one more
+module _ (t z o v : ℕ) (h : Shows t z o v) where
+  same : (w : ℕ) → (is0 v ≡ is0 w) × (is1 v ≡ is1 w) → Shows t z o w
+  same w e = record { zero? = h .zero? ∙ e .0; one? = h .one? ∙ e .1 }
 
-  pub start-2 : (k : ℕ) → k ≡ 2 → Shows t z o 1 → Shows t z o (evenGate k [])
-  unfolding evenGate andOf
-  start-2 k e h = rw e h
-
-  pub start-more : (k : ℕ) → 2 < k → k < 5 → Shows t z o 0 → Shows t z o (evenGate k [])
-  unfolding evenGate orOf andOf invertAll invert xorOf
-  start-more zero h g s = absurd (let z : ⊥ = omega arith in z)
-  start-more (suc zero) h g s = absurd (let z : ⊥ = omega arith in z)
-  start-more (suc (suc zero)) h g s = absurd (let z : ⊥ = omega arith in z)
-  start-more (suc (suc (suc zero))) h g s = s
-  start-more (suc (suc (suc (suc zero)))) h g s = s
-  start-more (suc (suc (suc (suc (suc k))))) h g s = absurd (let z : ⊥ = omega arith in z)
+  pub shows-single : (k : ℕ) → 1 ≤ k → k ≤ 4 → Shows t z o (evenGate k (v ∷ []))
+  shows-single zero a b = absurd (let z : ⊥ = omega arith in z)
+  shows-single (suc zero) a b = unfold evenGate in h
+  shows-single (suc (suc zero)) a b = unfold evenGate andOf in same _ (alone v)
+    where
+      alone : (v : ℕ) → (is0 v ≡ is0 (andPair v 1)) × (is1 v ≡ is1 (andPair v 1))
+      alone zero = unfold andPair in (refl, refl)
+      alone (suc zero) = unfold andPair in (refl, refl)
+      alone (suc (suc v)) = unfold andPair is0 is1 in (refl, refl)
+  shows-single (suc (suc (suc zero))) a b = unfold evenGate orOf invertAll andOf in same _ (alone v)
+    where
+      alone : (v : ℕ) → (is0 v ≡ is0 (invert (andPair (invert v) 1))) × (is1 v ≡ is1 (invert (andPair (invert v) 1)))
+      alone zero = unfold andPair invert in (refl, refl)
+      alone (suc zero) = unfold andPair invert in (refl, refl)
+      alone (suc (suc v)) = unfold andPair invert is0 is1 in (refl, refl)
+  shows-single (suc (suc (suc (suc zero)))) a b = unfold evenGate xorOf in same _ (alone v)
+    where
+      alone : (v : ℕ) → (is0 v ≡ is0 (xorPair v 0)) × (is1 v ≡ is1 (xorPair v 0))
+      alone zero = unfold xorPair in (refl, refl)
+      alone (suc zero) = unfold xorPair in (refl, refl)
+      alone (suc (suc v)) = unfold xorPair is0 is1 in (refl, refl)
+  shows-single (suc (suc (suc (suc (suc k))))) a b = absurd (let z : ⊥ = omega arith in z)
 
 module _ (t z o k v : ℕ) (ws : List ℕ) where
   pub more-1 : k ≡ 1 → Shows t z o v → Shows t z o (evenGate k (v ∷ ws))
@@ -227,3 +236,26 @@ read-X t z o zero h l a b = absurd (a (eqb-true _ _ (h .zero?)))
 read-X t z o (suc zero) h l a b = absurd (b (eqb-true _ _ (h .one?)))
 read-X t z o (suc (suc zero)) h l a b = refl
 read-X t z o (suc (suc (suc v))) h l a b = absurd (let z : ⊥ = omega arith in z)
+
+-- opposite to 0, to 1, to X
+module _ (t z o v g : ℕ) (h : Shows t z o v) where
+  pub opposing-0 : g ≡ 0 → bit t o ≡ opposes g v
+  opposing-0 e = rw e (h .one? ∙ is1-opposes v)
+    where
+      is1-opposes : (v : ℕ) → is1 v ≡ opposes 0 v
+      is1-opposes zero = unfold is1 opposes in refl
+      is1-opposes (suc zero) = unfold is1 opposes in refl
+      is1-opposes (suc (suc v)) = unfold is1 opposes in refl
+
+  pub opposing-1 : g ≡ 1 → bit t z ≡ opposes g v
+  opposing-1 e = rw e (h .zero? ∙ is0-opposes v)
+    where
+      is0-opposes : (v : ℕ) → is0 v ≡ opposes 1 v
+      is0-opposes zero = unfold is0 opposes in refl
+      is0-opposes (suc v) = unfold is0 opposes in refl
+
+pub opposing-X : (t v g : ℕ) → 1 < g → bit t 0 ≡ opposes g v
+unfolding opposes
+opposing-X t v zero h = absurd (let z : ⊥ = omega arith in z)
+opposing-X t v (suc zero) h = absurd (let z : ⊥ = omega arith in z)
+opposing-X t v (suc (suc g)) h = bit-none t

@@ -1,5 +1,5 @@
 -- What 64 lanes hold: lane t of two words is bit t of `zeros` (known to be 0) and of `ones` (known to be 1).
-use Prim.Native.Nat.{ℕ, zero, suc, _+_, _*_, _/_, _%_, _^_, _<_}
+use Prim.Native.Nat.{ℕ, zero, suc, _+_, _*_, _/_, _%_, _^_, _<_, _≤_}
 use mathlib.Core.Path.{_≡_}
 use mathlib.Core.Bool.{Bool, true, false}
 use mathlib.Core.List.{List}
@@ -32,3 +32,7 @@ Holds t x v = Shows t (x .zeros) (x .ones) v
 -- lane t of a list of words, two to a place, holds the values vs at its first places
 unfoldable pub Lane : ℕ → List ℕ → List ℕ → Type 0
 Lane t words vs = (m : ℕ) → m < length vs → Shows t (getD words (2 * m) 0) (getD words (2 * m + 1) 0) (getD vs m X)
+
+-- the list has words for so many places
+abbrev pub Room : ℕ → List ℕ → Type 0
+Room places words = 2 * places ≤ length words

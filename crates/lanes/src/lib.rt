@@ -1,12 +1,12 @@
 // 64 values at once, one in each lane: two 64-bit words, known 0 and known 1. X is neither. Giving a value is an OR, AND is an AND of the
 // ones and an OR of the zeros, inverting swaps the words.
 ghost use mathlib.Core.Bool.{Bool, cond};
-ghost use mathlib.Core.List.{List, [], _∷_};
+ghost use mathlib.Core.List.{List, _∷_};
 ghost use mathlib.Core.Path.{_≡_};
 ghost use Prim.Native.Nat.{ℕ, _<_, _≤_, _/_, _%_};
 ghost use lib.Dec.{eqb};
-ghost use Rattle.model.specs.Values.{X, invert, andPair, xorPair, orOf, evenGate, invertIf, inverts};
-ghost use Rattle.lanes.specs.Lane.{Holds};
+ghost use Rattle.model.specs.Values.{X, invert, andPair, xorPair, orOf, evenGate, invertIf, inverts, opposes};
+ghost use Rattle.lanes.specs.Lane.{Holds, bit};
 
 pub struct Lanes {
     pub zeros: u64,
@@ -73,18 +73,7 @@ impl Lanes {
         }
     }
 
-    // By the gate's kind: no pin yet, one pin more in front of the others, and the inversion at the end.
-    pub fn start(kind: u8) -> Lanes
-        requires { ⌜ (2 ≤ kind) × (kind ≤ 9) ⌝ }
-        ensures { λ r. ⌜ ((t : ℕ) → t < 64 → Holds t r (evenGate (kind / 2) [])) ⌝ }
-    {
-        match kind {
-            0..=3 => Lanes::X,
-            4..=5 => Lanes::ONE,
-            _ => Lanes::ZERO,
-        }
-    }
-
+    // By the gate's kind: one pin more in front of the others, and the inversion at the end.
     pub fn combine(self, kind: u8, rest: Lanes) -> Lanes
         requires { ⌜ (2 ≤ kind) × (kind ≤ 9) ⌝ }
         ensures { λ r. ⌜ ((t v : ℕ) (ws : List ℕ) → Holds t self v → Holds t rest (evenGate (kind / 2) ws) → Holds t r (evenGate (kind / 2) (v ∷ ws))) ⌝ }
@@ -131,6 +120,17 @@ impl Lanes {
         Lanes {
             zeros: self.zeros,
             ones: self.ones | one,
+        }
+    }
+
+    // The lanes in which this is opposite to a value.
+    pub fn opposing(self, value: u8) -> u64
+        ensures { λ r. ⌜ ((t v : ℕ) → Holds t self v → bit t r ≡ opposes value v) ⌝ }
+    {
+        match value {
+            0 => self.ones,
+            1 => self.zeros,
+            _ => 0,
         }
     }
 

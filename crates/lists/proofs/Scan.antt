@@ -277,6 +277,9 @@ module _ (P : ℕ → Bool) where
   pub anyBelow-stop : (n m : ℕ) → P n ≡ true → n < m → anyBelow P m ≡ true
   anyBelow-stop n m h l = is-true _ (λ e. clash _ h (anyBelow-false P m n e l))
 
+  pub anyBelow-more : (n m : ℕ) → anyBelow P n ≡ true → n ≤ m → anyBelow P m ≡ true
+  anyBelow-more n m h l = is-true _ (λ e. clash _ h (anyBelow-none P n (λ j k. anyBelow-false P m j e (omega arith))))
+
   pub countBelow-turn : (n : ℕ) → countBelow P (n + 1) ≡ countBelow P n + cond (P n) 1 0
   unfolding countBelow
   countBelow-turn n = rw add-one
@@ -288,6 +291,11 @@ module _ (P : ℕ → Bool) where
 pub gather-turn : {A : Type 0} (g : ℕ → List A) (n : ℕ) → gather g (n + 1) ≡ gather g n ++ g n
 unfolding gather
 gather-turn g n = rw add-one
+
+pub gather-same : {A : Type 0} (g h : ℕ → List A) → ((j : ℕ) → g j ≡ h j) → (n : ℕ) → gather g n ≡ gather h n
+unfolding gather
+gather-same g h e zero = refl
+gather-same g h e (suc n) = rw (gather-same g h e n, e n)
 
 pub map-take : (g : ℕ → ℕ) (xs : List ℕ) (n : ℕ) → n < length xs → map g (take (n + 1) xs) ≡ map g (take n xs) ++ (g (getD xs n 0) ∷ [])
 map-take g [] n h = absurd (let z : ⊥ = omega arith in z)

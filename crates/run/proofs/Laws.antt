@@ -1,27 +1,32 @@
 -- What one turn of each loop adds.
-use mathlib.Core.Path.{_≡_, sym, ap, _∙_}
+use mathlib.Core.Path.{_≡_, refl, sym, ap, _∙_}
 use Prim.Native.Nat.{ℕ, zero, suc, _+_, _-_, _*_, _<_, _≤_}
-use mathlib.Core.Bool.{true}
-use mathlib.Core.List.{List, [], _∷_, _++_, map, append-nil, append-assoc}
-use lib.ListN.{getD, length, set, take, drop, length-append, length-drop, length-map, length-take}
-use lib.Seq.{take-length}
+use mathlib.Core.Bool.{Bool, true, false, _&&_, _||_}
+use mathlib.Core.List.{List, [], _∷_, _++_, append-assoc}
+use lib.Bits.{bitAnd, bitOr}
+use lib.ListN.{getD, length, set, take, drop, length-append, length-drop, length-map, getD-replicate, length-replicate, List·getD-map}
+use lib.Seq.{take-length, take-suc, length-take-le}
 use native.Mathlib.Numerals.{add-one}
 use native.Mathlib.Omega.{arith}
-use native.Mathlib.Nat.{mul-le-mul-left, mul-suc, mul-comm}
-use Rattle.lists.specs.Scan.{gather}
-use Rattle.lists.specs.Field.{overwritten}
-use Rattle.lists.proofs.Scan.{All, all-at, select-all, length-select, length-gather, gather-turn, map-take, countBelow-bound}
-use Rattle.lists.proofs.Field.{overwritten-more}
+use native.Mathlib.Nat.{mul-le-mul, mul-le-mul-left, mul-suc, mul-comm}
+use Rattle.lists.specs.Scan.{anyBelow, gather}
+use Rattle.lists.proofs.Scan.{All, all-at, select-all, length-select, length-gather, gather-turn, anyBelow-more, countBelow-bound}
+use Rattle.lists.proofs.Tests.{and-left}
 use Rattle.model.specs.Inputs.{N, I, F, O, L, isInput, isOutput, outputLines, inputsAt, Fault}
 use Rattle.model.specs.Accepted.{ValidCircuit, ValidTest, ThreeValued}
-use Rattle.model.specs.Values.{X}
-use Rattle.model.specs.Simulation.{shown, lineValues, outputs, nextState, stateAt, valuesAt, outputsAt}
+use Rattle.model.specs.Values.{X, opposes, someOppose}
+use Rattle.model.specs.Simulation.{shown, powerUp, lineValues, outputs, nextState, stateAt, valuesAt, outputsAt}
 use Rattle.model.proofs.Runs.{length-nextState}
 use Rattle.model.proofs.ThreeValued.{inputs-three, lineValues-three, stateAt-three}
+use Rattle.lanes.specs.Lane.{bit, Lane}
+use Rattle.lanes.proofs.Bits.{bit-and, bit-or, bit-none}
+use Rattle.lanes.proofs.Laws.{lane-add, lane-none, shows-x}
 use Rattle.circuit.specs.Table.{Listed}
 use Rattle.job.specs.Job.{JobOf}
 use Rattle.job.specs.declared.Job.{Job}
 use Rattle.unit.specs.Unit.{Stuck}
+use Rattle.unit.proofs.Laws.{getD-any}
+use Rattle.run.specs.Run.{rowOf, runRow}
 
 -- record u of a table of n records of size i
 pub record-fits : (i u n : ℕ) → u < n → i * u + i ≤ n * i
@@ -35,11 +40,31 @@ pub part-inputs : (c t : List ℕ) (i u : ℕ) → i ≡ I c → take (i * u + i
 unfolding inputsAt
 part-inputs c t i u e = let size : i * u + i - i * u ≡ i = omega arith in rw (size, e)
 
+pub part-row : (c free : List ℕ) (o u : ℕ) → o ≡ O c → take (o * u + o - o * u) (drop (o * u) free) ≡ rowOf (O c) free u
+unfolding rowOf
+part-row c free o u e = let size : o * u + o - o * u ≡ o = omega arith in rw (size, e)
+
+pub row-long : (free : List ℕ) (o u units : ℕ) → u < units → units * o ≤ length free → o ≤ length (take (o * u + o - o * u) (drop (o * u) free))
+row-long free o u units h l =
+    let fits : o * u + o ≤ units * o = record-fits o u units h in
+    rw (length-take-le (o * u + o - o * u) (drop (o * u) free) (rw length-drop (omega arith))) (omega arith)
+
 pub test-fits : (c t : List ℕ) (j : Job) (u : ℕ) → JobOf c t j → ValidTest c t → u < j .units → j .inputs * u + j .inputs ≤ length t
 test-fits c t j u o v h = rw (v .whole, ← (o .units), ← (o .inputs)) (record-fits (j .inputs) u (j .units) h)
 
-pub area-fits : (c t : List ℕ) (j : Job) (u room : ℕ) → JobOf c t j → L c t * O c ≤ room → u < j .units → j .outputs * u + j .outputs ≤ room
-area-fits c t j u room o l h = (let all : j .units * j .outputs ≤ room = rw (o .units, o .outputs) l in omega (arith, all, record-fits (j .outputs) u (j .units) h))
+-- row u of a table of rows of one size, in an area of so many bytes
+pub record RowRoom (size u room : ℕ) : Type 0 where
+  pub fits : size * u + size ≤ room
+  pub below : size * u ≤ 524288
+
+pub row-room : (c t : List ℕ) (j : Job) (bits u room : ℕ) → ValidCircuit c → ValidTest c t → JobOf c t j → bits ≤ F c → L c t * (O c + bits) ≤ room → u < j .units
+    → RowRoom (j .outputs + bits) u room
+row-room c t j bits u room v w o b l h =
+    let size = j .outputs + bits in
+    let all : j .units * size ≤ room = rw (o .units, o .outputs) l in
+    let few : size ≤ 512 = omega (arith, o .outputs, b, v .outputs, v .flipFlops) in
+    let early : u ≤ 1024 = omega (arith, h, o .units, w .most) in
+    record { fits = omega (arith, all, record-fits size u (j .units) h); below = omega (arith, mul-le-mul few early) }
 
 -- ---- the loop over the outputs
 length-outputLines : (c : List ℕ) → length (outputLines c) ≡ O c
@@ -65,37 +90,93 @@ pub three-at : (vs : List ℕ) (m : ℕ) → ThreeValued vs → getD vs m X < 3
 three-at vs m h = omega (arith, h .at m)
 
 module _ (c : List ℕ) (f : Fault) (vs : List ℕ) where
-  -- what the first o outputs show
-  unfoldable pub shownOf : ℕ → List ℕ
-  shownOf o = map (λ n. shown f vs n) (take o (outputLines c))
+  pub length-outputs : length (outputs c f vs) ≡ O c
+  unfolding outputs
+  length-outputs = length-map (outputLines c) (λ n. shown f vs n) ∙ length-outputLines c
 
-  length-shownOf : (o : ℕ) → o ≤ O c → length (shownOf o) ≡ o
-  unfolding shownOf
-  length-shownOf o h = length-map (take o (outputLines c)) (λ n. shown f vs n) ∙ length-take o (outputLines c) ∙ (let e : length (outputLines c) ≡ O c = length-outputLines c in omega arith)
-
-  pub shown-none : (area done old : List ℕ) → area ≡ overwritten done old → area ≡ overwritten (done ++ shownOf 0) old
-  unfolding shownOf
-  shown-none area done old e = rw append-nil e
-
-  pub shown-more : (area area′ done old : List ℕ) (place o v : ℕ) → area′ ≡ set area (place + o) v → v ≡ getD vs (getD (outputLines c) o 0) X → length done ≡ place → o < O c
-      → place + o < length area → area ≡ overwritten (done ++ shownOf o) old → area′ ≡ overwritten (done ++ shownOf (o + 1)) old
-  shown-more area area′ done old place o v e w d h l a =
-      let now = done ++ shownOf o in
-      let long : length now ≡ place + o = length-append done (shownOf o) ∙ (let k : length (shownOf o) ≡ o = length-shownOf o (omega arith) in omega arith) in
-      let room : length now < length old = beyond now old (rw (← a, long) l) in
-      let put : set (overwritten now old) (length now) v ≡ overwritten (now ++ (v ∷ [])) old = overwritten-more now old v room in
-      e ∙ ap (λ x. set x (place + o) v) a ∙ ap (λ x. set (overwritten now old) x v) (sym long) ∙ put
-      ∙ ap (λ x. overwritten x old) (append-assoc done (shownOf o) (v ∷ []) ∙ ap (λ x. done ++ x) (ap (λ x. shownOf o ++ (x ∷ [])) w ∙ sym step))
+  -- what output o shows
+  pub shown-at : (o : ℕ) → o < O c → getD vs (getD (outputLines c) o 0) X ≡ getD (outputs c f vs) o X
+  shown-at o h =
+      let long : length (outputs c f vs) ≡ O c = length-outputs in
+      sym (getD-any (outputs c f vs) o X (shown f vs 0) (omega arith) ∙ mapped)
     where
-      beyond : (now old : List ℕ) → length now < length (overwritten now old) → length now < length old
-      beyond now old k = unfold overwritten in (let z : length now < length now + (length old - length now) = rw (length-append, length-drop) at k in omega arith)
+      mapped : getD (outputs c f vs) o (shown f vs 0) ≡ getD vs (getD (outputLines c) o 0) X
+      mapped = unfold outputs shown in List·getD-map (λ n. getD vs n X) (outputLines c) o 0
 
-      step : shownOf (o + 1) ≡ shownOf o ++ (getD vs (getD (outputLines c) o 0) X ∷ [])
-      step = unfold shownOf shown in map-take (λ n. getD vs n X) (outputLines c) o (omega (arith, length-outputLines c))
+-- ---- the lanes in which an output opposes
+or-assoc : (a b c : Bool) → ((a || b) || c) ≡ (a || (b || c))
+or-assoc true b c = refl
+or-assoc false b c = refl
 
-  pub shown-all : (o : ℕ) → o ≡ O c → shownOf o ≡ outputs c f vs
-  unfolding shownOf outputs
-  shown-all o e = rw (e, ← length-outputLines c, take-length)
+or-none : (a : Bool) → (a || false) ≡ a
+or-none true = refl
+or-none false = refl
+
+someOppose-more : (row bs : List ℕ) (v : ℕ) → length bs < length row → someOppose row (bs ++ (v ∷ [])) ≡ (someOppose row bs || opposes (getD row (length bs) 0) v)
+unfolding someOppose
+someOppose-more [] bs v h = absurd (let z : ⊥ = omega arith in z)
+someOppose-more (a ∷ row) [] v h = alone row
+  where
+    alone : (row : List ℕ) → (opposes a v || someOppose row []) ≡ opposes a v
+    alone [] = or-none (opposes a v)
+    alone (b ∷ row) = or-none (opposes a v)
+someOppose-more (a ∷ row) (b ∷ bs) v h = rw (someOppose-more row bs v (omega arith)) (sym (or-assoc (opposes a b) (someOppose row bs) (opposes (getD row (length bs) 0) v)))
+
+module _ (lane : ℕ) (row bs : List ℕ) where
+  pub opposing-none : bit lane 0 ≡ someOppose row (take 0 bs)
+  opposing-none = bit-none lane ∙ none row
+    where
+      none : (row : List ℕ) → false ≡ someOppose row []
+      none [] = unfold someOppose in refl
+      none (a ∷ row) = unfold someOppose in refl
+
+  pub opposing-more : (x y o v : ℕ) → o < length bs → o < length row → v ≡ getD bs o X → bit lane x ≡ someOppose row (take o bs) → bit lane y ≡ opposes (getD row o 0) v
+      → bit lane (bitOr x y) ≡ someOppose row (take (o + 1) bs)
+  opposing-more x y o v b r e h g =
+      let long : length (take o bs) ≡ o = length-take-le o bs (omega arith) in
+      let more : take (o + 1) bs ≡ take o bs ++ (v ∷ []) = rw (add-one o, e) (take-suc bs o X b) in
+      bit-or lane x y ∙ rw (h, g) (rw (more, someOppose-more row (take o bs) v (rw long r), long))
+
+  pub opposing-all : (x o : ℕ) → o ≡ length bs → bit lane x ≡ someOppose row (take o bs) → bit lane x ≡ someOppose row bs
+  opposing-all x o e h = let all : take o bs ≡ bs = rw e (take-length bs) in rw all at h
+
+-- at some unit
+module _ (lane : ℕ) (P : ℕ → Bool) where
+  pub ever-none : bit lane 0 ≡ anyBelow P 0
+  unfolding anyBelow
+  ever-none = bit-none lane
+
+  pub ever-more : (x y u : ℕ) → bit lane x ≡ anyBelow P u → bit lane y ≡ P u → bit lane (bitOr x y) ≡ anyBelow P (u + 1)
+  unfolding anyBelow
+  ever-more x y u h g = bit-or lane x y ∙ rw (add-one u, h, g)
+
+  -- a wanted lane opposes already
+  pub ever-stop : (x wanted u units : ℕ) → bit lane x ≡ anyBelow P (u + 1) → u < units → bitAnd x wanted ≡ wanted → bit lane wanted ≡ true → bit lane x ≡ anyBelow P units
+  ever-stop x wanted u units h l e w =
+      let both : (bit lane x && bit lane wanted) ≡ true = sym (bit-and lane x wanted) ∙ ap (bit lane) e ∙ w in
+      let here : bit lane x ≡ true = and-left _ _ both in
+      here ∙ sym (anyBelow-more P (u + 1) units (sym h ∙ here) (omega arith))
+
+-- ---- every flip-flop at X
+pub length-powerUp : (c : List ℕ) → length (powerUp c) ≡ F c
+unfolding powerUp
+length-powerUp c = length-replicate (F c) X
+
+module _ (c : List ℕ) (lane : ℕ) where
+  pub power-none : (ws : List ℕ) → Lane lane ws (take 0 (powerUp c))
+  power-none ws = lane-none lane ws [] refl
+
+  pub power-more : (ws ws′ : List ℕ) (s : ℕ) → ws′ ≡ set (set ws (2 * s) 0) (2 * s + 1) 0 → s < F c → 2 * s + 2 ≤ length ws → Lane lane ws (take s (powerUp c)) → Lane lane ws′ (take (s + 1) (powerUp c))
+  power-more ws ws′ s e h room l =
+      let long : length (powerUp c) ≡ F c = length-powerUp c in
+      let more : take (s + 1) (powerUp c) ≡ take s (powerUp c) ++ (X ∷ []) = rw (add-one s) (take-suc (powerUp c) s X (omega arith) ∙ ap (λ v. take s (powerUp c) ++ (v ∷ [])) at-x) in
+      rw (e, more) (lane-add lane ws (take s (powerUp c)) s 0 0 X (length-take-le s (powerUp c) (omega arith)) room l (shows-x lane X (omega arith)))
+    where
+      at-x : getD (powerUp c) s X ≡ X
+      at-x = unfold powerUp in getD-replicate {A = ℕ} (F c) s X X h
+
+  pub power-all : (ws : List ℕ) (s : ℕ) → s ≡ F c → Lane lane ws (take s (powerUp c)) → Lane lane ws (powerUp c)
+  power-all ws s e l = let all : take s (powerUp c) ≡ powerUp c = rw (e, ← length-powerUp c) (take-length (powerUp c)) in rw all at l
 
 -- ---- the loop over the units
 pub stuck-binary : (c : List ℕ) (t : ℕ) (hits masks : List ℕ) (f : Fault) → ValidCircuit c → N c ≤ length hits → Stuck t hits masks f → f .value < 2
@@ -115,14 +196,22 @@ module _ (c t : List ℕ) (f : Fault) (st : List ℕ) where
   length-state zero e = e
   length-state (suc u) e = length-nextState c f _
 
-  -- responses of the units below u
-  unfoldable pub responses : ℕ → List ℕ
-  responses u = gather (λ u. outputsAt c t f st u) u
+  -- rows of the units below u
+  unfoldable pub rows : ℕ → ℕ → List ℕ
+  rows bits u = gather (λ u. runRow c t f st bits u) u
 
-  pub length-responses : (u : ℕ) → length (responses u) ≡ O c * u
-  unfolding responses
-  length-responses u = length-gather (λ u. outputsAt c t f st u) (O c) (λ u. unfold outputsAt outputs in (length-map (outputLines c) _ ∙ length-outputLines c)) u
+  pub length-rows : (bits u : ℕ) → length st ≡ F c → bits ≤ F c → length (rows bits u) ≡ (O c + bits) * u
+  unfolding rows
+  length-rows bits u e h =
+      length-gather (λ u. runRow c t f st bits u) (O c + bits)
+      (λ u. unfold runRow outputsAt in (length-append (outputs c f (valuesAt c t f st u)) (take bits (stateAt c t f st u)) ∙ (
+      let o : length (outputs c f (valuesAt c t f st u)) ≡ O c = length-outputs c f _ in
+      let all : length (stateAt c t f st u) ≡ F c = length-state u e in
+      let s : length (take bits (stateAt c t f st u)) ≡ bits = length-take-le bits (stateAt c t f st u) (omega arith) in
+      omega arith))) u
 
-  pub responses-turn : (u : ℕ) → responses (u + 1) ≡ responses u ++ outputs c f (lineValues c f (inputsAt c t u) (stateAt c t f st u))
-  unfolding responses outputsAt valuesAt
-  responses-turn u = gather-turn (λ u. outputsAt c t f st u) u
+  pub rows-turn : (bits u : ℕ) → rows bits (u + 1) ≡ (rows bits u ++ outputs c f (lineValues c f (inputsAt c t u) (stateAt c t f st u))) ++ take bits (stateAt c t f st u)
+  unfolding rows runRow outputsAt valuesAt
+  rows-turn bits u =
+      gather-turn (λ u. runRow c t f st bits u) u
+      ∙ sym (append-assoc (gather (λ u. runRow c t f st bits u) u) (outputs c f (lineValues c f (inputsAt c t u) (stateAt c t f st u))) (take bits (stateAt c t f st u)))

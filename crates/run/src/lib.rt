@@ -1,18 +1,21 @@
-// Runs of a test in 64 lanes: unit by unit, and what lane 0 shows.
+// Runs of a test in 64 lanes, unit by unit: what lane 0 shows, as tables in a lent area, and the lanes in which an output opposes.
+ghost use mathlib.Core.Bool.{true};
 ghost use mathlib.Core.List.{List, _++_};
 ghost use mathlib.Core.Path.{_≡_};
 ghost use Prim.Native.Nat.{ℕ, _+_, _*_, _≤_};
-ghost use lib.ListN.{length};
-ghost use Rattle.lists.specs.Scan.{gather};
+ghost use lib.ListN.{length, take};
+ghost use Rattle.lists.specs.Scan.{anyBelow, gather};
 ghost use Rattle.lists.specs.Field.{overwritten};
-ghost use Rattle.model.specs.Inputs.{N, I, F, O, L, flipFlops, outputLines, inputsAt, Fault};
-ghost use Rattle.model.specs.Accepted.{ValidCircuit, ValidTest, ThreeValued};
-ghost use Rattle.model.specs.Simulation.{lineValues, outputs, outputsAt};
-ghost use Rattle.lanes.specs.Lane.{Lane};
+ghost use Rattle.model.specs.Inputs.{N, I, F, O, L, outputLines, inputsAt, Fault};
+ghost use Rattle.model.specs.Accepted.{ValidCircuit, ThreeValued};
+ghost use Rattle.model.specs.Values.{someOppose};
+ghost use Rattle.model.specs.Simulation.{powerUp, lineValues, outputs, outputsAt};
+ghost use Rattle.lanes.specs.Lane.{bit, Lane, Room};
 ghost use Rattle.circuit.specs.Table.{Listed};
-ghost use Rattle.job.specs.Job.{JobOf};
-ghost use Rattle.unit.specs.Unit.{Stuck};
+ghost use Rattle.unit.specs.Unit.{Stuck, MaskRoom};
+ghost use Rattle.run.specs.Run.{Runnable, rowOf, runRow};
 use job::Job;
+use lanes::Lanes;
 
 // The values of all lines at unit u of a test, from the state there.
 pub fn values_at(
@@ -27,13 +30,25 @@ pub fn values_at(
     words: &mut [u64],
 )
     requires { ⌜ (ValidCircuit (now c)) × (lines ≡ N (now c)) × (inputs ≡ I (now c)) × (inputs * u + inputs ≤ length (now t)) × (lines ≤ length (now hits))
-        × (2560 ≤ length (now masks)) × (2 * lines ≤ length (now words)) × (2 * F (now c) ≤ length (now state)) ⌝ }
+        × (MaskRoom (now masks)) × (Room lines (now words)) × (Room (F (now c)) (now state)) ⌝ }
     ensures { λ _. ⌜ ((lane : ℕ) (f : Fault) (st : List ℕ) → Stuck lane (now (hits .entry)) (now (masks .entry)) f → Lane lane (now (state .entry)) st → length st ≡ F (now (c .entry))
         → Lane lane (now (words .exit)) (lineValues (now (c .entry)) f (inputsAt (now (c .entry)) (now (t .entry)) u) st)) ⌝ }
 {
     let at = inputs * u;
     let to = at + inputs;
     unit::simulate_unit(c, lines, &t[at..to], state, hits, masks, words);
+}
+
+// Every flip-flop at X, in all lanes.
+pub fn power_up(c: &[u8], count: usize, state: &mut [u64])
+    requires { ⌜ (count ≡ F (now c)) × (Room count (now state)) ⌝ }
+    ensures { λ _. ⌜ ((lane : ℕ) → Lane lane (now (state .exit)) (powerUp (now (c .entry)))) ⌝ }
+{
+    let mut s: usize = 0;
+    while s < count {
+        unit::put_lanes(state, s, Lanes::X);
+        s += 1;
+    }
 }
 
 // What the outputs, whose lines the table gives, show in lane 0, one byte each, after the bytes that stand before `place`.
@@ -45,7 +60,7 @@ pub fn write_outputs(
     area: &mut [u8],
     place: usize,
 )
-    requires { ⌜ (ValidCircuit (now c)) × (Listed (outputLines (now c)) (now outs)) × (count ≡ O (now c)) × (2 * N (now c) ≤ length (now words)) × (place + count ≤ length (now area)) ⌝ }
+    requires { ⌜ (ValidCircuit (now c)) × (Listed (outputLines (now c)) (now outs)) × (count ≡ O (now c)) × (Room (N (now c)) (now words)) × (place + count ≤ length (now area)) ⌝ }
     ensures { λ _. ⌜ ((f : Fault) (vs done old : List ℕ) → Lane 0 (now (words .entry)) vs → length vs ≡ N (now (c .entry)) → ThreeValued vs
         → now (area .entry) ≡ overwritten done old → length done ≡ place → now (area .exit) ≡ overwritten (done ++ outputs (now (c .entry)) f vs) old) ⌝ }
 {
@@ -57,11 +72,26 @@ pub fn write_outputs(
     }
 }
 
-// The responses of lane 0 to a whole test, unit by unit.
-pub fn write_responses(
+// The first so many bits of the state in lane 0, one byte each, after the bytes that stand before `place`.
+pub fn write_state(state: &[u64], count: usize, area: &mut [u8], place: usize)
+    requires { ⌜ (Room count (now state)) × (place + count ≤ length (now area)) ⌝ }
+    ensures { λ _. ⌜ ((st done old : List ℕ) → Lane 0 (now (state .entry)) st → count ≤ length st → ThreeValued st
+        → now (area .entry) ≡ overwritten done old → length done ≡ place → now (area .exit) ≡ overwritten (done ++ take count st) old) ⌝ }
+{
+    let mut s: usize = 0;
+    while s < count {
+        let x = unit::lanes_at(state, s);
+        area[place + s] = x.lane(0);
+        s += 1;
+    }
+}
+
+// The run of lane 0, a row a unit: the responses, then the first so many bits of the state.
+pub fn write_rows(
     c: &[u8],
     job: Job,
     t: &[u8],
+    bits: usize,
     flops: &[usize],
     outs: &[usize],
     hits: &[u8],
@@ -70,17 +100,71 @@ pub fn write_responses(
     state: &mut [u64],
     area: &mut [u8],
 )
-    requires { ⌜ (ValidCircuit (now c)) × (ValidTest (now c) (now t)) × (JobOf (now c) (now t) job) × (Listed (flipFlops (now c)) (now flops)) × (Listed (outputLines (now c)) (now outs))
-        × (N (now c) ≤ length (now hits)) × (2560 ≤ length (now masks)) × (2 * N (now c) ≤ length (now words)) × (2 * F (now c) ≤ length (now state))
-        × (L (now c) (now t) * O (now c) ≤ length (now area)) ⌝ }
+    requires { ⌜ (Runnable (now c) (now t) job (now flops) (now outs) (now hits) (now masks) (now words) (now state)) × (bits ≤ F (now c)) × (L (now c) (now t) * (O (now c) + bits) ≤ length (now area)) ⌝ }
     ensures { λ _. ⌜ ((f : Fault) (st : List ℕ) → Stuck 0 (now (hits .entry)) (now (masks .entry)) f → Lane 0 (now (state .entry)) st → length st ≡ F (now (c .entry)) → ThreeValued st
-        → now (area .exit) ≡ overwritten (gather (λ u. outputsAt (now (c .entry)) (now (t .entry)) f st u) (L (now (c .entry)) (now (t .entry)))) (now (area .entry))) ⌝ }
+        → now (area .exit) ≡ overwritten (gather (λ u. runRow (now (c .entry)) (now (t .entry)) f st bits u) (L (now (c .entry)) (now (t .entry)))) (now (area .entry))) ⌝ }
 {
+    let size = job.outputs + bits;
     let mut u: usize = 0;
     while u < job.units {
+        let place = size * u;
         values_at(c, job.lines, job.inputs, t, u, state, hits, masks, words);
-        write_outputs(c, outs, job.outputs, words, area, job.outputs * u);
+        write_outputs(c, outs, job.outputs, words, area, place);
+        write_state(state, bits, area, place + job.outputs);
         unit::next_state(c, flops, job.flops, hits, masks, words, state);
         u += 1;
     }
+}
+
+// The lanes in which some output opposes the response that the row gives, a byte an output.
+pub fn opposing(c: &[u8], outs: &[usize], count: usize, words: &[u64], row: &[u8]) -> u64
+    requires { ⌜ (ValidCircuit (now c)) × (Listed (outputLines (now c)) (now outs)) × (count ≡ O (now c)) × (Room (N (now c)) (now words)) × (count ≤ length (now row)) ⌝ }
+    ensures { λ r. ⌜ ((lane : ℕ) (f : Fault) (vs : List ℕ) → Lane lane (now (words .entry)) vs → length vs ≡ N (now (c .entry))
+        → bit lane r ≡ someOppose (now (row .entry)) (outputs (now (c .entry)) f vs)) ⌝ }
+{
+    let mut found: u64 = 0;
+    let mut o: usize = 0;
+    while o < count {
+        let x = unit::lanes_at(words, outs[o]);
+        found = found | x.opposing(row[o]);
+        o += 1;
+    }
+    found
+}
+
+// The lanes, of those wanted, in which some output opposes the given responses at one of the first so many units; no unit is run after all
+// of them do.
+pub fn opposing_ever(
+    c: &[u8],
+    job: Job,
+    t: &[u8],
+    units: usize,
+    free: &[u8],
+    wanted: u64,
+    flops: &[usize],
+    outs: &[usize],
+    hits: &[u8],
+    masks: &[u64],
+    words: &mut [u64],
+    state: &mut [u64],
+) -> u64
+    requires { ⌜ (Runnable (now c) (now t) job (now flops) (now outs) (now hits) (now masks) (now words) (now state)) × (units ≤ L (now c) (now t)) × (units * O (now c) ≤ length (now free)) ⌝ }
+    ensures { λ r. ⌜ ((lane : ℕ) (f : Fault) (st : List ℕ) → bit lane wanted ≡ true → Stuck lane (now (hits .entry)) (now (masks .entry)) f → Lane lane (now (state .entry)) st
+        → length st ≡ F (now (c .entry))
+        → bit lane r ≡ anyBelow (λ u. someOppose (rowOf (O (now (c .entry))) (now (free .entry)) u) (outputsAt (now (c .entry)) (now (t .entry)) f st u)) units) ⌝ }
+{
+    let mut found: u64 = 0;
+    let mut u: usize = 0;
+    while u < units {
+        let at = job.outputs * u;
+        let to = at + job.outputs;
+        values_at(c, job.lines, job.inputs, t, u, state, hits, masks, words);
+        found = found | opposing(c, outs, job.outputs, words, &free[at..to]);
+        if found & wanted == wanted {
+            return found;
+        }
+        unit::next_state(c, flops, job.flops, hits, masks, words, state);
+        u += 1;
+    }
+    found
 }

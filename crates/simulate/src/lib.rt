@@ -1,22 +1,21 @@
 // The call Simulate: the plain responses of a circuit, with at most one fault, to a test.
-ghost use mathlib.Core.List.{List};
 ghost use mathlib.Core.Path.{_≡_};
-ghost use Prim.Native.Nat.{ℕ, _<_, _≤_};
+ghost use Prim.Native.Nat.{_<_, _≤_};
 ghost use lib.ListN.{length};
 ghost use Rattle.lists.specs.Field.{overwritten};
 ghost use Rattle.model.specs.Inputs.{faultAt, faultCount};
 ghost use Rattle.model.specs.Simulate.{onlyFault, simulateBytes, simulateAnswer, simulateArea};
 ghost use Rattle.faults.specs.Given.{Blank};
 ghost use Rattle.job.specs.Job.{answerOf, JobOf};
-ghost use Rattle.unit.specs.Unit.{Stuck};
-ghost use Rattle.simulate.specs.Simulate.{Accepted};
+ghost use Rattle.unit.specs.Unit.{Stuck, MaskRoom};
+ghost use Rattle.simulate.specs.Simulate.{Ready};
 use job::Job;
 use job::Outcome;
 use rules::Check;
 
 // The fault of the list, if there is one, in all lanes.
 fn give_only(fs: &[u8], hits: &mut [u8], masks: &mut [u64])
-    requires { ⌜ (Blank (now hits) (now masks)) × (length (now hits) ≤ 65536) × (2560 ≤ length (now masks))
+    requires { ⌜ (Blank (now hits) (now masks)) × (length (now hits) ≤ 65536) × (MaskRoom (now masks))
         × (0 < faultCount (now fs) → (faultAt (now fs) 0 .line < length (now hits)) × (faultAt (now fs) 0 .pin < 5) × (faultAt (now fs) 0 .value < 2)) ⌝ }
     ensures { λ _. ⌜ Stuck 0 (now (hits .exit)) (now (masks .exit)) (onlyFault (now (fs .entry))) ⌝ }
 {
@@ -28,7 +27,7 @@ fn give_only(fs: &[u8], hits: &mut [u8], masks: &mut [u64])
 
 // The responses of an accepted job.
 fn respond(c: &[u8], job: Job, t: &[u8], fs: &[u8], result: &mut [u8])
-    requires { ⌜ (Accepted (now c) (now t) (now fs) (length (now result))) × (JobOf (now c) (now t) job) ⌝ }
+    requires { ⌜ (Ready (now c) (now t) (now fs) (length (now result))) × (JobOf (now c) (now t) job) ⌝ }
     ensures { λ _. ⌜ now (result .exit) ≡ overwritten (simulateBytes (now (c .entry)) (now (t .entry)) (now (fs .entry))) (now (result .entry)) ⌝ }
 {
     let mut flops = [0usize; 256];
@@ -40,10 +39,12 @@ fn respond(c: &[u8], job: Job, t: &[u8], fs: &[u8], result: &mut [u8])
     circuit::list_flops(c, job.lines, &mut flops);
     circuit::list_outputs(c, job.lines, &mut outs);
     give_only(fs, &mut hits, &mut masks);
-    run::write_responses(
+    run::power_up(c, job.flops, &mut state);
+    run::write_rows(
         c,
         job,
         t,
+        0,
         &flops,
         &outs,
         &hits,

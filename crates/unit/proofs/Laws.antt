@@ -47,25 +47,27 @@ module _ (t z o v : ℕ) (masks : List ℕ) (row : ℕ) (f : Fault) (n pin : ℕ
   unfolding seen
   seen-held g l h = h (isStuck f n pin) (f .value) (s .binary) (s .held g pin l)
 
--- ---- a gate's pins, from the last to the first
+-- ---- a gate's pins, by how many it has
 module _ (t z o k : ℕ) (c : List ℕ) (f : Fault) (vs : List ℕ) (n : ℕ) where
-  pub pins-none : (j p : ℕ) → p ≡ j → Shows t z o (evenGate k []) → Shows t z o (evenGate k (tabulate (λ pin. pinSeen c f vs n pin) (p + 1) (j - p)))
-  unfolding tabulate
-  pins-none j p e h = let q : j - p ≡ 0 = omega arith in rw q h
+  -- what the gate of these pins gives
+  unfoldable pub Gives : List ℕ → Type 0
+  Gives pins = Shows t z o (invertIf (inverts k) (evenGate (k / 2) pins))
 
-  pub pins-more : (j p q : ℕ) → p ≡ q + 1 → p ≤ j
-      → Shows t z o (evenGate k (pinSeen c f vs n p ∷ tabulate (λ pin. pinSeen c f vs n pin) (p + 1) (j - p)))
-      → Shows t z o (evenGate k (tabulate (λ pin. pinSeen c f vs n pin) (q + 1) (j - q)))
-  unfolding tabulate
-  pins-more j p q e l h =
-      let left : j - q ≡ suc (j - p) = omega arith in
-      let next : suc p ≡ p + 1 = omega arith in
-      rw (left, ← e, next) h
+  pub pins-1 : pinCount c n ≡ 1 → Gives (pinSeen c f vs n 1 ∷ []) → Shows t z o (gate k (pinsSeen c f vs n))
+  unfolding Gives gate pinsSeen tabulate
+  pins-1 e h = rw e h
 
-  pub pins-all : (p : ℕ) → p ≡ 0 → Shows t z o (invertIf (inverts k) (evenGate (k / 2) (tabulate (λ pin. pinSeen c f vs n pin) (p + 1) (pinCount c n - p))))
-      → Shows t z o (gate k (pinsSeen c f vs n))
-  unfolding gate pinsSeen
-  pins-all p e h = let q : pinCount c n - 0 ≡ pinCount c n = omega arith in rw (e, q) at h
+  pub pins-2 : pinCount c n ≡ 2 → Gives (pinSeen c f vs n 1 ∷ pinSeen c f vs n 2 ∷ []) → Shows t z o (gate k (pinsSeen c f vs n))
+  unfolding Gives gate pinsSeen tabulate
+  pins-2 e h = rw e h
+
+  pub pins-3 : pinCount c n ≡ 3 → Gives (pinSeen c f vs n 1 ∷ pinSeen c f vs n 2 ∷ pinSeen c f vs n 3 ∷ []) → Shows t z o (gate k (pinsSeen c f vs n))
+  unfolding Gives gate pinsSeen tabulate
+  pins-3 e h = rw e h
+
+  pub pins-4 : pinCount c n ≡ 4 → Gives (pinSeen c f vs n 1 ∷ pinSeen c f vs n 2 ∷ pinSeen c f vs n 3 ∷ pinSeen c f vs n 4 ∷ []) → Shows t z o (gate k (pinsSeen c f vs n))
+  unfolding Gives gate pinsSeen tabulate
+  pins-4 e h = rw e h
 
 -- ---- what stands behind a line, by its kind
 module _ (t z o : ℕ) (c : List ℕ) (f : Fault) (inputs st vs : List ℕ) (n : ℕ) where

@@ -5,18 +5,18 @@ ghost use mathlib.Core.List.{List};
 ghost use Prim.Native.Nat.{ℕ, _+_, _*_, _<_, _≤_};
 ghost use lib.ListN.{length, getD, set};
 ghost use Rattle.lists.specs.Scan.{countBelow};
-ghost use Rattle.model.specs.Inputs.{N, kind, isInput, isFlipFlop, I, F, flipFlops, Fault};
+ghost use Rattle.model.specs.Inputs.{N, kind, pinLine, isInput, isFlipFlop, I, F, flipFlops, Fault};
 ghost use Rattle.model.specs.Accepted.{ValidCircuit};
 ghost use Rattle.model.specs.Values.{gate};
-ghost use Rattle.model.specs.Simulation.{seen, pinsSeen, behind, lineValues, nextState};
-ghost use Rattle.lanes.specs.Lane.{Holds, Lane};
+ghost use Rattle.model.specs.Simulation.{seen, pinSeen, pinsSeen, behind, lineValues, nextState};
+ghost use Rattle.lanes.specs.Lane.{Holds, Lane, Room};
 ghost use Rattle.circuit.specs.Table.{Listed};
-ghost use Rattle.unit.specs.Unit.{StuckAt, Stuck};
+ghost use Rattle.unit.specs.Unit.{StuckAt, Stuck, MaskRoom};
 use lanes::Lanes;
 
 // The lanes at place m.
 pub fn lanes_at(words: &[u64], m: usize) -> Lanes
-    requires { ⌜ 2 * m + 2 ≤ length (now words) ⌝ }
+    requires { ⌜ Room (m + 1) (now words) ⌝ }
     ensures { λ r. ⌜ (r .zeros ≡ getD (now (words .entry)) (2 * m) 0) × (r .ones ≡ getD (now (words .entry)) (2 * m + 1) 0) ⌝ }
 {
     Lanes {
@@ -26,7 +26,7 @@ pub fn lanes_at(words: &[u64], m: usize) -> Lanes
 }
 
 pub fn put_lanes(words: &mut [u64], m: usize, x: Lanes)
-    requires { ⌜ 2 * m + 2 ≤ length (now words) ⌝ }
+    requires { ⌜ Room (m + 1) (now words) ⌝ }
     ensures { λ _. ⌜ now (words .exit) ≡ set (set (now (words .entry)) (2 * m) (x .zeros)) (2 * m + 1) (x .ones) ⌝ }
 {
     words[2 * m] = x.zeros;
@@ -35,7 +35,7 @@ pub fn put_lanes(words: &mut [u64], m: usize, x: Lanes)
 
 // What is seen at a pin (0: the line itself) of a line with this row of masks, where x stands behind it.
 fn seen_at(masks: &[u64], row: usize, pin: usize, x: Lanes) -> Lanes
-    requires { ⌜ (2560 ≤ length (now masks)) × (row < 256) × (pin < 5) ⌝ }
+    requires { ⌜ (MaskRoom (now masks)) × (row < 256) × (pin < 5) ⌝ }
     ensures { λ r. ⌜ ((t : ℕ) (f : Fault) (n v : ℕ) → StuckAt t (now (masks .entry)) row f n → Holds t x v → Holds t r (seen f n pin v)) ⌝ }
 {
     if row == 0 {
@@ -44,20 +44,49 @@ fn seen_at(masks: &[u64], row: usize, pin: usize, x: Lanes) -> Lanes
     x.stuck(lanes_at(masks, 5 * row + pin))
 }
 
-// Gate n, of kind k, from its last pin to its first.
-fn gate_lanes(c: &[u8], masks: &[u64], words: &[u64], n: usize, k: u8, row: usize) -> Lanes
-    requires { ⌜ (ValidCircuit (now c)) × (n < N (now c)) × (k ≡ kind (now c) n) × (2 ≤ k) × (2560 ≤ length (now masks)) × (row < 256) × (2 * n ≤ length (now words)) ⌝ }
-    ensures { λ r. ⌜ ((t : ℕ) (f : Fault) (vs : List ℕ) → t < 64 → StuckAt t (now (masks .entry)) row f n → Lane t (now (words .entry)) vs → length vs ≡ n → Holds t r (gate k (pinsSeen (now (c .entry)) f vs n))) ⌝ }
+// What pin p of line n sees.
+fn pin_lanes(c: &[u8], masks: &[u64], words: &[u64], n: usize, p: usize, row: usize) -> Lanes
+    requires { ⌜ (12 * n + 12 ≤ length (now c)) × (1 ≤ p) × (p ≤ 4) × (MaskRoom (now masks)) × (row < 256) × (Room (pinLine (now c) n p + 1) (now words)) ⌝ }
+    ensures { λ r. ⌜ ((t : ℕ) (f : Fault) (vs : List ℕ) → StuckAt t (now (masks .entry)) row f n → Lane t (now (words .entry)) vs → pinLine (now (c .entry)) n p < length vs
+        → Holds t r (pinSeen (now (c .entry)) f vs n p)) ⌝ }
 {
-    let mut x = Lanes::start(k);
-    let mut p = circuit::pins_of(c, n);
-    while 0 < p {
-        let m = circuit::pin_of(c, n, p);
-        let y = seen_at(masks, row, p, lanes_at(words, m));
-        x = y.combine(k, x);
-        p -= 1;
+    let m = circuit::pin_of(c, n, p);
+    seen_at(masks, row, p, lanes_at(words, m))
+}
+
+// Gate n, of kind k.
+fn gate_lanes(c: &[u8], masks: &[u64], words: &[u64], n: usize, k: u8, row: usize) -> Lanes
+    requires { ⌜ (ValidCircuit (now c)) × (n < N (now c)) × (k ≡ kind (now c) n) × (2 ≤ k) × (MaskRoom (now masks)) × (row < 256) × (Room n (now words)) ⌝ }
+    ensures { λ r. ⌜ ((t : ℕ) (f : Fault) (vs : List ℕ) → StuckAt t (now (masks .entry)) row f n → Lane t (now (words .entry)) vs → length vs ≡ n → Holds t r (gate k (pinsSeen (now (c .entry)) f vs n))) ⌝ }
+{
+    let pins = circuit::pins_of(c, n);
+    let first = pin_lanes(c, masks, words, n, 1, row);
+    if pins < 2 {
+        return first.finish(k);
     }
-    x.finish(k)
+    let second = pin_lanes(c, masks, words, n, 2, row);
+    if pins < 3 {
+        return first.combine(k, second).finish(k);
+    }
+    let third = pin_lanes(c, masks, words, n, 3, row);
+    if pins < 4 {
+        return first.combine(k, second.combine(k, third)).finish(k);
+    }
+    let fourth = pin_lanes(c, masks, words, n, 4, row);
+    first
+        .combine(k, second.combine(k, third.combine(k, fourth)))
+        .finish(k)
+}
+
+// With no fault at the gate, which is the rule, the tests of the row fall away.
+fn any_gate(c: &[u8], masks: &[u64], words: &[u64], n: usize, k: u8, row: usize) -> Lanes
+    requires { ⌜ (ValidCircuit (now c)) × (n < N (now c)) × (k ≡ kind (now c) n) × (2 ≤ k) × (MaskRoom (now masks)) × (row < 256) × (Room n (now words)) ⌝ }
+    ensures { λ r. ⌜ ((t : ℕ) (f : Fault) (vs : List ℕ) → StuckAt t (now (masks .entry)) row f n → Lane t (now (words .entry)) vs → length vs ≡ n → Holds t r (gate k (pinsSeen (now (c .entry)) f vs n))) ⌝ }
+{
+    if row == 0 {
+        return gate_lanes(c, masks, words, n, k, 0);
+    }
+    gate_lanes(c, masks, words, n, k, row)
 }
 
 // What stands behind line n, of kind k, with i inputs and s flip-flops below it.
@@ -73,15 +102,15 @@ fn behind_lanes(
     i: usize,
     s: usize,
 ) -> Lanes
-    requires { ⌜ (ValidCircuit (now c)) × (n < N (now c)) × (k ≡ kind (now c) n) × (2560 ≤ length (now masks)) × (row < 256) × (2 * n ≤ length (now words))
-        × (i ≡ countBelow (λ m. isInput (now c) m) n) × (s ≡ countBelow (λ m. isFlipFlop (now c) m) n) × (I (now c) ≤ length (now inputs)) × (2 * F (now c) ≤ length (now state)) ⌝ }
+    requires { ⌜ (ValidCircuit (now c)) × (n < N (now c)) × (k ≡ kind (now c) n) × (MaskRoom (now masks)) × (row < 256) × (Room n (now words))
+        × (i ≡ countBelow (λ m. isInput (now c) m) n) × (s ≡ countBelow (λ m. isFlipFlop (now c) m) n) × (I (now c) ≤ length (now inputs)) × (Room (F (now c)) (now state)) ⌝ }
     ensures { λ r. ⌜ ((t : ℕ) (f : Fault) (st vs : List ℕ) → t < 64 → StuckAt t (now (masks .entry)) row f n → Lane t (now (state .entry)) st → length st ≡ F (now (c .entry))
         → Lane t (now (words .entry)) vs → length vs ≡ n → Holds t r (behind (now (c .entry)) f (now (inputs .entry)) st vs n)) ⌝ }
 {
     match k {
         0 => Lanes::all(inputs[i]),
         1 => lanes_at(state, s),
-        _ => gate_lanes(c, masks, words, n, k, row),
+        _ => any_gate(c, masks, words, n, k, row),
     }
 }
 
@@ -95,8 +124,8 @@ pub fn simulate_unit(
     masks: &[u64],
     words: &mut [u64],
 )
-    requires { ⌜ (ValidCircuit (now c)) × (lines ≡ N (now c)) × (lines ≤ length (now hits)) × (2560 ≤ length (now masks)) × (2 * lines ≤ length (now words))
-        × (I (now c) ≤ length (now inputs)) × (2 * F (now c) ≤ length (now state)) ⌝ }
+    requires { ⌜ (ValidCircuit (now c)) × (lines ≡ N (now c)) × (lines ≤ length (now hits)) × (MaskRoom (now masks)) × (Room lines (now words))
+        × (I (now c) ≤ length (now inputs)) × (Room (F (now c)) (now state)) ⌝ }
     ensures { λ _. ⌜ ((t : ℕ) (f : Fault) (st : List ℕ) → Stuck t (now (hits .entry)) (now (masks .entry)) f → Lane t (now (state .entry)) st → length st ≡ F (now (c .entry))
         → Lane t (now (words .exit)) (lineValues (now (c .entry)) f (now (inputs .entry)) st)) ⌝ }
 {
@@ -124,17 +153,16 @@ pub fn next_state(
     words: &[u64],
     state: &mut [u64],
 )
-    requires { ⌜ (ValidCircuit (now c)) × (Listed (flipFlops (now c)) (now flops)) × (count ≡ F (now c)) × (N (now c) ≤ length (now hits)) × (2560 ≤ length (now masks))
-        × (2 * N (now c) ≤ length (now words)) × (2 * count ≤ length (now state)) ⌝ }
+    requires { ⌜ (ValidCircuit (now c)) × (Listed (flipFlops (now c)) (now flops)) × (count ≡ F (now c)) × (N (now c) ≤ length (now hits)) × (MaskRoom (now masks))
+        × (Room (N (now c)) (now words)) × (Room count (now state)) ⌝ }
     ensures { λ _. ⌜ ((t : ℕ) (f : Fault) (vs : List ℕ) → Stuck t (now (hits .entry)) (now (masks .entry)) f → Lane t (now (words .entry)) vs → length vs ≡ N (now (c .entry))
         → Lane t (now (state .exit)) (nextState (now (c .entry)) f vs)) ⌝ }
 {
     let mut s: usize = 0;
     while s < count {
         let n = flops[s];
-        let m = circuit::pin_of(c, n, 1);
         let row = circuit::wide(hits[n]);
-        put_lanes(state, s, seen_at(masks, row, 1, lanes_at(words, m)));
+        put_lanes(state, s, pin_lanes(c, masks, words, n, 1, row));
         s += 1;
     }
 }

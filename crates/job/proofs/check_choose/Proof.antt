@@ -1,7 +1,7 @@
 use mathlib.Core.Path.{_≡_, sym, ap, _∙_}
 use borrow.Author.Tests.{lt-ltb, le-ltb}
 use Rattle.model.specs.Refusals.{chooseRefusal, refuse, row12}
-use Rattle.job.proofs.Laws.{inputs-first, inputs-valid}
+use Rattle.job.proofs.Laws.{inputs-first, accepted}
 use Rattle.lists.proofs.Scan.{else-found, else-skips}
 use Rattle.rules.specs.Check.{refusalOf}
 use Rattle.rules.specs.declared.Check.the-variants.{Passed}
@@ -44,7 +44,8 @@ job-of-requires : tie.Need-job-of-requires
 unfolding refusalOf
 job-of-requires c κs =
     let passed : c .before .before .before .check-inputs .result ≡ Passed = c .before .enum-told .given .1 in
-    inputs-valid _ _ _ _ _ (sym (c .before .before .before .check-inputs .ensures) ∙ ap refusalOf passed)
+    let inputs = accepted _ _ _ _ _ (sym (c .before .before .before .check-inputs .ensures) ∙ ap refusalOf passed) in
+    (inputs .circuit, inputs .test)
 
 -- src/lib.rt:207:37
 mul-check-areas : tie.Need-mul-check-areas

@@ -2,7 +2,7 @@ use mathlib.Core.Path.{_≡_, sym, ap, _∙_}
 use native.Mathlib.Omega.{arith}
 use Rattle.model.specs.Inputs.{faultCount}
 use Rattle.model.specs.Refusals.{gradeRefusal, row12}
-use Rattle.job.proofs.Laws.{inputs-first, inputs-valid, inputs-count}
+use Rattle.job.proofs.Laws.{inputs-first, accepted}
 use Rattle.lists.proofs.Scan.{else-found, else-skips}
 use Rattle.rules.specs.Check.{refusalOf}
 use Rattle.rules.specs.declared.Check.the-variants.{Passed}
@@ -40,14 +40,15 @@ mul-size : tie.Need-mul-size
 unfolding refusalOf faultCount
 mul-size c =
     let passed : c .before .before .check-inputs .result ≡ Passed = c .enum-told .given .1 in
-    omega (arith, inputs-count _ _ _ _ _ (sym (c .before .before .check-inputs .ensures) ∙ ap refusalOf passed))
+    omega (arith, accepted _ _ _ _ _ (sym (c .before .before .check-inputs .ensures) ∙ ap refusalOf passed) .few)
 
 -- src/lib.rt:185:29
 job-of-requires : tie.Need-job-of-requires
 unfolding refusalOf
 job-of-requires c κs =
     let passed : c .before .before .check-inputs .result ≡ Passed = c .enum-told .given .1 in
-    inputs-valid _ _ _ _ _ (sym (c .before .before .check-inputs .ensures) ∙ ap refusalOf passed)
+    let inputs = accepted _ _ _ _ _ (sym (c .before .before .check-inputs .ensures) ∙ ap refusalOf passed) in
+    (inputs .circuit, inputs .test)
 
 -- src/lib.rt:185:9
 check-areas-requires : tie.Need-check-areas-requires

@@ -2,7 +2,7 @@ use native.Mathlib.Nat.{mul-le-mul}
 use mathlib.Core.Path.{_≡_, sym, ap, _∙_}
 use native.Mathlib.Omega.{arith}
 use Rattle.model.specs.Refusals.{simulateRefusal}
-use Rattle.job.proofs.Laws.{inputs-first, inputs-valid}
+use Rattle.job.proofs.Laws.{inputs-first, accepted}
 use Rattle.lists.proofs.Scan.{else-found, else-skips}
 use Rattle.rules.specs.Check.{refusalOf}
 use Rattle.rules.specs.declared.Check.the-variants.{Passed}
@@ -37,7 +37,8 @@ job-of-requires : tie.Need-job-of-requires
 unfolding refusalOf
 job-of-requires c κs =
     let passed : c .before .before .check-inputs .result ≡ Passed = c .enum-told .given .1 in
-    inputs-valid _ _ _ _ _ (sym (c .before .before .check-inputs .ensures) ∙ ap refusalOf passed)
+    let inputs = accepted _ _ _ _ _ (sym (c .before .before .check-inputs .ensures) ∙ ap refusalOf passed) in
+    (inputs .circuit, inputs .test)
 
 -- src/lib.rt:157:16
 mul-size : tie.Need-mul-size

@@ -1,15 +1,17 @@
-use mathlib.Core.Path.{_≡_, refl}
+use mathlib.Core.Path.{_≡_, refl, _∙_}
 use mathlib.Core.List.{List, _++_}
 use Prim.Native.Nat.{ℕ, _+_, _-_, _<_, _≤_}
-use lib.ListN.{getD, length, length-set}
+use lib.ListN.{getD, length, take, length-set}
 use native.Mathlib.Omega.{arith}
 use Rattle.lists.specs.Field.{overwritten}
-use Rattle.model.specs.Inputs.{N, outputLines, Fault}
+use Rattle.lists.proofs.Field.{row-none, row-more, row-all}
+use Rattle.model.specs.Inputs.{N, O, outputLines, Fault}
 use Rattle.model.specs.Values.{X}
 use Rattle.model.specs.Accepted.{ThreeValued}
+use Rattle.model.specs.Simulation.{outputs}
 use Rattle.lanes.specs.Lane.{Lane}
 use Rattle.unit.proofs.Laws.{lane-read}
-use Rattle.run.proofs.Laws.{OutputAt, output-at, shownOf, shown-none, shown-more, shown-all, three-at}
+use Rattle.run.proofs.Laws.{OutputAt, output-at, length-outputs, shown-at, three-at}
 use Rattle.run.proofs.write_outputs.Statement.{statement}
 use Rattle.run.proofs.write_outputs.Tie as tie
 use Rattle.run.proofs.write_outputs.Reads as reads
@@ -21,7 +23,7 @@ abbrev Inv-loop : tie.InvT-loop
 Inv-loop c outs count words area₀ place o₀ area o =
     (o ≤ count) × (length area ≡ length area₀)
     × ((f : Fault) (vs done old : List ℕ) → Lane 0 words vs → length vs ≡ N c → ThreeValued vs → area₀ ≡ overwritten done old → length done ≡ place
-    → area ≡ overwritten (done ++ shownOf c f vs o) old)
+    → area ≡ overwritten (done ++ take o (outputs c f vs)) old)
 
 abbrev μ-loop : tie.MeasureT-loop
 μ-loop c outs count words area₀ place o₀ area o = count - o
@@ -40,7 +42,7 @@ inside c =
 
 -- src/lib.rt:53:5
 loop-holds : tie.Need-loop-holds Inv-loop μ-loop
-loop-holds c = (omega arith, refl, λ f vs done old l e w a d. shown-none _ f vs _ done old a)
+loop-holds c = (omega arith, refl, λ f vs done old l e w a d. row-none done (outputs (c .before .before .before .before .args .c .now) f vs) old _ a)
 
 -- src/lib.rt:54:39
 mul-lanes-at : tie.Need-mul-lanes-at Inv-loop μ-loop
@@ -82,13 +84,14 @@ loop-again c =
     let start = turn .before .before .before .before .before .before in
     let output = at turn in
     let read = c .before .lanes-at .ensures in
-    let line = getD (outputLines (start .args .c .now)) (loop .o) 0 in (
+    let line = getD (outputLines (start .args .c .now)) (loop .o) 0 in
+    let below : loop .o < O (start .args .c .now) = omega (arith, turn .loop-test .taken, start .pre .2) in (
       omega (arith, turn .loop-test .taken),
       simp length-set (loop .inv .1),
       λ f vs done old l e w a d.
-          shown-more _ f vs _ _ done old _ _ _ refl
-          (c .lane .ensures (getD vs line X) (three-at vs line w) (lane-read 0 _ vs _ _ _ line l (read .0) (read .1) (output .line) (omega (arith, output .below, output .line, e))))
-          d (omega (arith, turn .loop-test .taken, start .pre .2)) (inside c) (loop .inv .2 f vs done old l e w a d),
+          row-more done (outputs _ f vs) old _ _ _ _ _ X refl
+          (c .lane .ensures (getD vs line X) (three-at vs line w) (lane-read 0 _ vs _ _ _ line l (read .0) (read .1) (output .line) (omega (arith, output .below, output .line, e))) ∙ shown-at _ f vs _ below)
+          d (rw (length-outputs _ f vs) below) (inside c) (loop .inv .2 f vs done old l e w a d),
     )
 
 -- src/lib.rt:40:1
@@ -99,8 +102,8 @@ same-length c = c .before .loop .inv .1
 returns : tie.Need-returns Inv-loop μ-loop
 returns c = λ f vs done old l e w a d.
     let start = c .before .before .before .before .before .before in
-    let all = shown-all (start .args .c .now) f vs (c .before .loop .o) (omega (arith, c .before .loop .inv .0, c .loop-test .left, start .pre .2)) in
-    rw (← all) (c .before .loop .inv .2 f vs done old l e w a d)
+    let long = length-outputs (start .args .c .now) f vs in
+    row-all done (outputs (start .args .c .now) f vs) old _ (c .before .loop .o) (omega (arith, long, c .before .loop .inv .0, c .loop-test .left, start .pre .2)) (c .before .loop .inv .2 f vs done old l e w a d)
 
 pub write-outputs-spec : {M : Type 1} → statement M
 write-outputs-spec =

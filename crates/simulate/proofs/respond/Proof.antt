@@ -1,8 +1,10 @@
 use native.Mathlib.Omega.{arith}
-use Rattle.model.specs.Simulation.{powerUp, plainOutputs}
-use Rattle.model.specs.Simulate.{simulateBytes}
+use native.Mathlib.Nat.{add-zero}
+use Rattle.model.specs.Simulation.{powerUp}
 use Rattle.model.proofs.ThreeValued.{powerUp-three}
-use Rattle.simulate.proofs.Laws.{blank-zeros, all-x, length-powerUp}
+use Rattle.run.proofs.Laws.{length-powerUp}
+use Rattle.faults.proofs.Laws.{blank-zeros}
+use Rattle.simulate.proofs.Laws.{rows-plain}
 use borrow.Author.Needs.{needs}
 use Rattle.simulate.proofs.respond.Statement.{statement}
 use Rattle.simulate.proofs.respond.Tie as tie
@@ -10,7 +12,8 @@ use Rattle.simulate.proofs.respond.Reads as reads
 use Rattle.simulate.proofs.respond.Lts as lts
 use Rattle.circuit.proofs.list_flops.Reads as list-flops-reads
 use Rattle.circuit.proofs.list_outputs.Reads as list-outputs-reads
-use Rattle.run.proofs.write_responses.Reads as write-responses-reads
+use Rattle.run.proofs.power_up.Reads as power-up-reads
+use Rattle.run.proofs.write_rows.Reads as write-rows-reads
 use Rattle.simulate.proofs.give_only.Reads as give-only-reads
 
 -- src/lib.rt:40:39
@@ -40,54 +43,66 @@ slice-aggregate-give-only-2 c = search needs
 -- src/lib.rt:42:5
 give-only-requires : tie.Need-give-only-requires
 give-only-requires c κs =
-    let accepted = c .before .before .before .before .before .before .before .before .before .before .before .before .pre .0 in (
+    let accepted = c .before .before .before .before .before .before .before .before .before .before .before .before .pre .0 .inputs in (
       blank-zeros 4096 2560,
       omega arith,
       omega arith,
       (λ some.
-          let fault = accepted .fault some in
+          let fault = accepted .fault 0 some in
           (omega (arith, fault .line, accepted .circuit .lines), omega (arith, fault .pin, accepted .circuit .few _ (fault .line)), omega (arith, fault .value))),
     )
 
--- src/lib.rt:47:9
-slice-aggregate-write-responses : tie.Need-slice-aggregate-write-responses
-slice-aggregate-write-responses c = search needs
-
--- src/lib.rt:48:9
-slice-aggregate-write-responses-2 : tie.Need-slice-aggregate-write-responses-2
-slice-aggregate-write-responses-2 c = search needs
-
--- src/lib.rt:49:9
-slice-aggregate-write-responses-3 : tie.Need-slice-aggregate-write-responses-3
-slice-aggregate-write-responses-3 c = search needs
-
--- src/lib.rt:50:9
-slice-aggregate-write-responses-4 : tie.Need-slice-aggregate-write-responses-4
-slice-aggregate-write-responses-4 c = search needs
-
--- src/lib.rt:51:9
-slice-aggregate-write-responses-5 : tie.Need-slice-aggregate-write-responses-5
-slice-aggregate-write-responses-5 c = search needs
-
--- src/lib.rt:52:9
-slice-aggregate-write-responses-6 : tie.Need-slice-aggregate-write-responses-6
-slice-aggregate-write-responses-6 c = search needs
+-- src/lib.rt:43:33
+slice-aggregate-power-up : tie.Need-slice-aggregate-power-up
+slice-aggregate-power-up c = search needs
 
 -- src/lib.rt:43:5
-write-responses-requires : tie.Need-write-responses-requires
-write-responses-requires c κs =
-    let pre = c .before .before .before .before .before .before .before .before .before .before .before .before .before .before .before .before .before .before .before .before .before .before .pre in
-    let circuit = pre .0 .circuit in (
-      circuit,
-      pre .0 .test,
-      pre .1,
-      c .before .before .before .before .before .before .before .before .before .before .before .before .before .before .before .before .list-flops .ensures,
-      c .before .before .before .before .before .before .before .before .before .before .before .before .before .list-outputs .ensures,
-      omega (arith, circuit .lines, c .before .before .before .before .before .before .before .before .hits2 .given),
-      omega (arith, c .before .before .before .before .before .before .before .masks2 .given),
-      omega (arith, circuit .lines),
-      omega (arith, circuit .flipFlops),
-      pre .0 .room,
+power-up-requires : tie.Need-power-up-requires
+power-up-requires c κs = search needs
+
+-- src/lib.rt:49:9
+slice-aggregate-write-rows : tie.Need-slice-aggregate-write-rows
+slice-aggregate-write-rows c = search needs
+
+-- src/lib.rt:50:9
+slice-aggregate-write-rows-2 : tie.Need-slice-aggregate-write-rows-2
+slice-aggregate-write-rows-2 c = search needs
+
+-- src/lib.rt:51:9
+slice-aggregate-write-rows-3 : tie.Need-slice-aggregate-write-rows-3
+slice-aggregate-write-rows-3 c = search needs
+
+-- src/lib.rt:52:9
+slice-aggregate-write-rows-4 : tie.Need-slice-aggregate-write-rows-4
+slice-aggregate-write-rows-4 c = search needs
+
+-- src/lib.rt:53:9
+slice-aggregate-write-rows-5 : tie.Need-slice-aggregate-write-rows-5
+slice-aggregate-write-rows-5 c = search needs
+
+-- src/lib.rt:54:9
+slice-aggregate-write-rows-6 : tie.Need-slice-aggregate-write-rows-6
+slice-aggregate-write-rows-6 c = search needs
+
+-- src/lib.rt:44:5
+write-rows-requires : tie.Need-write-rows-requires
+write-rows-requires c κs =
+    let pre = c .before .before .before .before .before .before .before .before .before .before .before .before .before .before .before .before .before .before .before .before .before .before .before .before .before .pre in
+    let inputs = pre .0 .inputs in
+    let circuit = inputs .circuit in (
+      record {
+        circuit = circuit;
+        test = inputs .test;
+        sizes = pre .1;
+        flopTable = c .before .before .before .before .before .before .before .before .before .before .before .before .before .before .before .before .before .before .before .list-flops .ensures;
+        outputTable = c .before .before .before .before .before .before .before .before .before .before .before .before .before .before .before .before .list-outputs .ensures;
+        hitRoom = omega (arith, circuit .lines, c .before .before .before .before .before .before .before .before .before .before .before .hits2 .given);
+        maskRoom = omega (arith, c .before .before .before .before .before .before .before .before .before .before .masks2 .given);
+        lineRoom = omega (arith, circuit .lines);
+        stateRoom = omega (arith, circuit .flipFlops, c .before .before .before .before .before .before .before .state2 .given);
+      },
+      omega arith,
+      rw add-zero (pre .0 .room),
     )
 
 -- src/lib.rt:30:1
@@ -96,10 +111,10 @@ same-length c = search needs
 
 -- src/lib.rt:30:1
 returns : tie.Need-returns
-unfolding simulateBytes plainOutputs
 returns c =
-    let cs = c .before .before .before .before .before .before .before .before .before .before .before .before .before .before .before .before .before .before .before .before .before .before .before .before .before .before .before .args .c .now in
-    c .before .before .before .before .write-responses .ensures _ (powerUp cs) (c .before .before .before .before .before .before .before .before .before .before .before .before .before .before .give-only .ensures) (all-x 0 512 cs) (length-powerUp cs) (powerUp-three cs)
+    let cs = c .before .before .before .before .before .before .before .before .before .before .before .before .before .before .before .before .before .before .before .before .before .before .before .before .before .before .before .before .before .before .args .c .now in
+    rw (← (rows-plain cs (c .before .before .before .before .before .before .before .before .before .before .before .before .before .before .before .before .before .before .before .before .before .before .before .before .before .before .before .before .before .before .args .t .now) (c .before .before .before .before .before .before .before .before .before .before .before .before .before .before .before .before .before .before .before .before .before .before .before .before .before .before .before .before .before .before .args .fs .now)))
+    (c .before .before .before .before .write-rows .ensures _ (powerUp cs) (c .before .before .before .before .before .before .before .before .before .before .before .before .before .before .before .before .before .give-only .ensures) (c .before .before .before .before .before .before .before .before .before .before .before .before .before .power-up .ensures 0) (length-powerUp cs) (powerUp-three cs))
 
 pub respond-spec : {M : Type 1} → statement M
 respond-spec =
@@ -112,12 +127,14 @@ respond-spec =
     slice-aggregate-give-only
     slice-aggregate-give-only-2
     give-only-requires
-    slice-aggregate-write-responses
-    slice-aggregate-write-responses-2
-    slice-aggregate-write-responses-3
-    slice-aggregate-write-responses-4
-    slice-aggregate-write-responses-5
-    slice-aggregate-write-responses-6
-    write-responses-requires
+    slice-aggregate-power-up
+    power-up-requires
+    slice-aggregate-write-rows
+    slice-aggregate-write-rows-2
+    slice-aggregate-write-rows-3
+    slice-aggregate-write-rows-4
+    slice-aggregate-write-rows-5
+    slice-aggregate-write-rows-6
+    write-rows-requires
     same-length
     returns)

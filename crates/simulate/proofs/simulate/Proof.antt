@@ -7,7 +7,7 @@ use Rattle.model.specs.Refusals.{simulateRefusal}
 use Rattle.rules.specs.Check.{refusalOf}
 use Rattle.rules.specs.declared.Check.the-variants.{Passed}
 use Rattle.job.specs.Job.{answerOf}
-use Rattle.simulate.proofs.Laws.{accepted, answer-done, answer-refused, area-done, area-refused}
+use Rattle.simulate.proofs.Laws.{ready, answer-done, answer-refused, area-done, area-refused}
 use borrow.Author.Needs.{needs}
 use Rattle.simulate.proofs.simulate.Statement.{statement}
 use Rattle.simulate.proofs.simulate.Tie as tie
@@ -45,7 +45,7 @@ passed c =
 
 -- src/lib.rt:72:9
 job-of-requires : tie.Need-job-of-requires
-job-of-requires c κs = let job = accepted _ _ _ _ _ (passed c) in (job .circuit, job .test)
+job-of-requires c κs = let inputs = ready _ _ _ _ _ (passed c) .inputs in (inputs .circuit, inputs .test)
 
 -- src/lib.rt:73:16
 mul-size : tie.Need-mul-size
@@ -53,7 +53,7 @@ mul-size c = let l = c .before .job-of .ensures .1 in omega (arith, mul-le-mul (
 
 -- src/lib.rt:74:5
 respond-requires : tie.Need-respond-requires
-respond-requires c κs = (accepted _ _ _ _ _ (passed (c .before .before .before)), c .before .before .job-of .ensures .0)
+respond-requires c κs = (ready _ _ _ _ _ (passed (c .before .before .before)), c .before .before .job-of .ensures .0)
 
 -- src/lib.rt:57:1
 same-length : tie.Need-same-length

@@ -7,7 +7,7 @@ use Rattle.unit.proofs.behind_lanes.Tie as tie
 use Rattle.unit.proofs.behind_lanes.Reads as reads
 use Rattle.unit.proofs.behind_lanes.Lts as lts
 use Rattle.lanes.proofs.Lanes.all.Reads as all-reads
-use Rattle.unit.proofs.gate_lanes.Reads as gate-lanes-reads
+use Rattle.unit.proofs.any_gate.Reads as any-gate-reads
 use Rattle.unit.proofs.lanes_at.Reads as lanes-at-reads
 
 -- src/lib.rt:81:25
@@ -27,8 +27,8 @@ lanes-at-requires c κs =
     omega (arith, start .pre .7, start .pre .9, state-place _ _ (start .pre .1) (sym (start .pre .2) ∙ c .match .keys2))
 
 -- src/lib.rt:83:14
-gate-lanes-requires : tie.Need-gate-lanes-requires
-gate-lanes-requires c κs = search needs
+any-gate-requires : tie.Need-any-gate-requires
+any-gate-requires c κs = search needs
 
 -- src/lib.rt:63:1
 returns : tie.Need-returns
@@ -51,7 +51,7 @@ returns-2 c =
 returns-3 : tie.Need-returns-3
 returns-3 c =
     let start = c .before .before .before .before .before .before .before in
-    λ t f st vs l s ls es h eh. behind-gate t _ _ _ f _ st vs _ _ (start .pre .2) (omega arith) (c .gate-lanes .ensures t f vs l s h eh)
+    λ t f st vs l s ls es h eh. behind-gate t _ _ _ f _ st vs _ _ (start .pre .2) (omega arith) (c .any-gate .ensures t f vs s h eh)
 
 pub behind-lanes-spec : {M : Type 1} → statement M
 behind-lanes-spec =
@@ -60,7 +60,7 @@ behind-lanes-spec =
     shared-slice-read-all
     all-requires
     lanes-at-requires
-    gate-lanes-requires
+    any-gate-requires
     returns
     returns-2
     returns-3)

@@ -4,19 +4,16 @@ use Prim.Native.Nat.{ℕ, _-_, _≤_}
 use native.Mathlib.Omega.{arith}
 use lib.ListN.{length, length-set}
 use Rattle.model.specs.Inputs.{N, Fault}
-use Rattle.model.specs.Simulation.{pinSeen}
 use Rattle.lanes.specs.Lane.{Lane}
 use Rattle.unit.specs.Unit.{Stuck}
-use Rattle.unit.proofs.Laws.{lane-read, stuck-row, FlopAt, flop-at, nextOf, next-none, next-more, next-all}
+use Rattle.unit.proofs.Laws.{stuck-row, FlopAt, flop-at, nextOf, next-none, next-more, next-all}
 use Rattle.unit.proofs.next_state.Statement.{statement}
 use Rattle.unit.proofs.next_state.Tie as tie
 use Rattle.unit.proofs.next_state.Reads as reads
 use Rattle.unit.proofs.next_state.Lts as lts
-use Rattle.circuit.proofs.pin_of.Reads as pin-of-reads
 use Rattle.circuit.proofs.wide.Reads as wide-reads
-use Rattle.unit.proofs.lanes_at.Reads as lanes-at-reads
+use Rattle.unit.proofs.pin_lanes.Reads as pin-lanes-reads
 use Rattle.unit.proofs.put_lanes.Reads as put-lanes-reads
-use Rattle.unit.proofs.seen_at.Reads as seen-at-reads
 
 abbrev Inv-loop : tie.InvT-loop
 Inv-loop c flops count hits masks words state₀ s₀ state s =
@@ -32,79 +29,65 @@ at c =
     let start = c .before .before .before .before .before .before .before .before in
     flop-at _ _ (start .pre .0) (start .pre .1) _ (omega (arith, c .loop-test .taken, start .pre .2))
 
--- src/lib.rt:105:5
+-- src/lib.rt:160:5
 loop-holds : tie.Need-loop-holds Inv-loop μ-loop
 loop-holds c = (omega arith, refl, λ t f vs s l e. next-none _ f vs t _)
 
--- src/lib.rt:106:17
+-- src/lib.rt:161:17
 mul-n : tie.Need-mul-n Inv-loop μ-loop
-mul-n c =
-    let start = c .before .before .before .before .before .before .before .before in
-    omega (arith, start .pre .0 .flipFlops, start .pre .2)
+mul-n c = omega (arith, c .before .before .before .before .before .before .before .before .pre .0 .flipFlops, c .before .before .before .before .before .before .before .before .pre .2)
 
--- src/lib.rt:106:17
+-- src/lib.rt:161:17
 shared-slice-read-n : tie.Need-shared-slice-read-n Inv-loop μ-loop
 shared-slice-read-n c = at (c .before) .place
 
--- src/lib.rt:107:13
-pin-of-requires : tie.Need-pin-of-requires Inv-loop μ-loop
-pin-of-requires c κs =
-    let start = c .before .before .before .before .before .before .before .before .before in
-    (omega (arith, at (c .before) .below, start .pre .0 .size), omega arith, omega arith)
-
--- src/lib.rt:108:33
+-- src/lib.rt:162:33
 shared-slice-read-wide : tie.Need-shared-slice-read-wide Inv-loop μ-loop
-shared-slice-read-wide c = omega (arith, at (c .before .before .before) .below, c .before .before .before .before .before .before .before .before .before .before .before .pre .3)
+shared-slice-read-wide c = omega (arith, at (c .before .before) .below, c .before .before .before .before .before .before .before .before .before .before .pre .3)
 
--- src/lib.rt:108:13
+-- src/lib.rt:162:13
 wide-requires : tie.Need-wide-requires Inv-loop μ-loop
 wide-requires c κs = tt
 
--- src/lib.rt:109:52
-lanes-at-requires : tie.Need-lanes-at-requires Inv-loop μ-loop
-lanes-at-requires c κs = omega (arith, at (c .before .before .before .before .before) .fed, c .before .before .before .pin-of .ensures .0, c .before .before .before .before .before .before .before .before .before .before .before .before .before .pre .5)
+-- src/lib.rt:163:29
+pin-lanes-requires : tie.Need-pin-lanes-requires Inv-loop μ-loop
+pin-lanes-requires c κs =
+    let pre = c .before .before .before .before .before .before .before .before .before .before .before .before .pre in
+    let flop = at (c .before .before .before .before) in
+    (omega (arith, flop .below, pre .0 .size), omega arith, omega arith, pre .4, omega (arith, c .before .wide .ensures .1), omega (arith, flop .fed, pre .5))
 
--- src/lib.rt:109:29
-seen-at-requires : tie.Need-seen-at-requires Inv-loop μ-loop
-seen-at-requires c κs = (c .before .before .before .before .before .before .before .before .before .before .before .before .before .before .pre .4, omega (arith, c .before .before .wide .ensures .1), omega arith)
-
--- src/lib.rt:109:9
+-- src/lib.rt:163:9
 put-lanes-requires : tie.Need-put-lanes-requires Inv-loop μ-loop
-put-lanes-requires c κs = omega (arith, c .before .before .before .before .before .before .before .before .loop .inv .1, c .before .before .before .before .before .before .before .before .before .before .before .before .before .before .before .pre .6)
+put-lanes-requires c κs = omega (arith, c .before .before .before .before .before .before .loop .inv .1, c .before .before .before .before .before .before .before .before .before .before .before .before .before .pre .6)
 
--- src/lib.rt:110:9
+-- src/lib.rt:164:9
 add-s : tie.Need-add-s Inv-loop μ-loop
 add-s c = omega arith
 
--- src/lib.rt:105:5
+-- src/lib.rt:160:5
 loop-less : tie.Need-loop-less Inv-loop μ-loop
 loop-less c = omega arith
 
--- src/lib.rt:105:5
+-- src/lib.rt:160:5
 loop-again : tie.Need-loop-again Inv-loop μ-loop
-unfolding pinSeen
 loop-again c =
-    let turn = c .before .before .before .before .before .before .before .before .before .before in
-    let loop = turn .before .loop in
-    let start = turn .before .before .before .before .before .before .before .before in
-    let flop = at turn in
-    let put = c .before .before .put-lanes .ensures in
-    let read = c .before .before .before .before .lanes-at .ensures in
-    let pin = c .before .before .before .before .before .before .before .before .pin-of .ensures .0 in (
+    let loop = c .before .before .before .before .before .before .before .before .before .loop in
+    let start = c .before .before .before .before .before .before .before .before .before .before .before .before .before .before .before .before in
+    let flop = at (c .before .before .before .before .before .before .before .before) in
+    let put = c .before .before .put-lanes .ensures in (
       omega arith,
       rw put (simp length-set (loop .inv .1)),
       λ t f vs s l e.
           next-more _ f vs t _ _ _ _ _ put (omega (arith, start .pre .2)) (omega (arith, loop .inv .1, start .pre .6)) (loop .inv .2 t f vs s l e)
           (rw (← flop .line)
-          (c .before .before .before .seen-at .ensures t f _ _ (stuck-row t _ _ f _ _ s (omega (arith, flop .below, start .pre .3)) (c .before .before .before .before .before .before .wide .ensures .0))
-          (lane-read t _ vs _ _ _ _ l (read .0) (read .1) pin (omega (arith, flop .fed))))),
+          (c .before .before .before .pin-lanes .ensures t f vs (stuck-row t _ _ f _ _ s (omega (arith, flop .below, start .pre .3)) (c .before .before .before .before .before .wide .ensures .0)) l (omega (arith, flop .fed, e)))),
     )
 
--- src/lib.rt:98:1
+-- src/lib.rt:145:1
 same-length : tie.Need-same-length Inv-loop μ-loop
 same-length c = c .before .loop .inv .1
 
--- src/lib.rt:98:1
+-- src/lib.rt:145:1
 returns : tie.Need-returns Inv-loop μ-loop
 returns c = λ t f vs s l e. next-all _ f vs t _ _ (omega (arith, c .before .before .before .before .before .before .before .before .pre .2)) (c .before .loop .inv .2 t f vs s l e)
 
@@ -117,11 +100,9 @@ next-state-spec =
     loop-holds
     mul-n
     shared-slice-read-n
-    pin-of-requires
     shared-slice-read-wide
     wide-requires
-    lanes-at-requires
-    seen-at-requires
+    pin-lanes-requires
     put-lanes-requires
     add-s
     loop-less

@@ -1,0 +1,2 @@
+-- Laws of Simulate.
+pub mod Laws

@@ -1,0 +1,2 @@
+-- What the exported calls return.
+pub mod Detected

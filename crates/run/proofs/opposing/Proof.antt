@@ -1,0 +1,100 @@
+use mathlib.Core.Path.{_≡_}
+use mathlib.Core.List.{List}
+use Prim.Native.Nat.{ℕ, _-_, _<_, _≤_}
+use lib.ListN.{getD, length, take}
+use native.Mathlib.Omega.{arith}
+use Rattle.model.specs.Inputs.{N, O, outputLines, Fault}
+use Rattle.model.specs.Values.{X, someOppose}
+use Rattle.model.specs.Simulation.{outputs}
+use Rattle.lanes.specs.Lane.{bit, Lane}
+use Rattle.unit.proofs.Laws.{lane-read}
+use Rattle.run.proofs.Laws.{OutputAt, output-at, length-outputs, shown-at, opposing-none, opposing-more, opposing-all}
+use Rattle.run.proofs.opposing.Statement.{statement}
+use Rattle.run.proofs.opposing.Tie as tie
+use Rattle.run.proofs.opposing.Reads as reads
+use Rattle.run.proofs.opposing.Lts as lts
+use Rattle.lanes.proofs.Lanes.opposing.Reads as opposing-reads
+use Rattle.unit.proofs.lanes_at.Reads as lanes-at-reads
+
+abbrev Inv-loop : tie.InvT-loop
+Inv-loop c outs count words row found₀ o₀ found o =
+    (o ≤ count) × ((lane : ℕ) (f : Fault) (vs : List ℕ) → Lane lane words vs → length vs ≡ N c → bit lane found ≡ someOppose row (take o (outputs c f vs)))
+
+abbrev μ-loop : tie.MeasureT-loop
+μ-loop c outs count words row found₀ o₀ found o = count - o
+
+at : (c : tie.In-loop Inv-loop μ-loop) → OutputAt (c .before .before .before .before .before .before .args .c .now) (c .before .before .before .before .before .before .args .outs .now) (c .before .loop .o)
+at c =
+    let start = c .before .before .before .before .before .before in
+    output-at _ _ (start .pre .1) _ (omega (arith, c .loop-test .taken, start .pre .2))
+
+-- src/lib.rt:157:5
+loop-holds : tie.Need-loop-holds Inv-loop μ-loop
+loop-holds c = (omega arith, λ lane f vs l e. opposing-none lane _ (outputs (c .before .before .before .before .args .c .now) f vs))
+
+-- src/lib.rt:158:39
+mul-lanes-at : tie.Need-mul-lanes-at Inv-loop μ-loop
+mul-lanes-at c = let start = c .before .before .before .before .before .before in omega (arith, start .pre .0 .outputs, start .pre .2)
+
+-- src/lib.rt:158:39
+shared-slice-read-lanes-at : tie.Need-shared-slice-read-lanes-at Inv-loop μ-loop
+shared-slice-read-lanes-at c = at (c .before) .place
+
+-- src/lib.rt:158:13
+lanes-at-requires : tie.Need-lanes-at-requires Inv-loop μ-loop
+lanes-at-requires c κs = omega (arith, at (c .before) .below, c .before .before .before .before .before .before .before .pre .3)
+
+-- src/lib.rt:159:36
+shared-slice-read-opposing : tie.Need-shared-slice-read-opposing Inv-loop μ-loop
+shared-slice-read-opposing c = omega (arith, c .before .before .before .loop-test .taken, c .before .before .before .before .before .before .before .before .before .pre .4)
+
+-- src/lib.rt:159:25
+opposing-requires : tie.Need-opposing-requires Inv-loop μ-loop
+opposing-requires c κs = tt
+
+-- src/lib.rt:160:9
+add-o : tie.Need-add-o Inv-loop μ-loop
+add-o c = omega (arith, c .before .before .before .before .loop-test .taken)
+
+-- src/lib.rt:157:5
+loop-less : tie.Need-loop-less Inv-loop μ-loop
+loop-less c = omega (arith, c .before .before .before .before .loop-test .taken)
+
+-- src/lib.rt:157:5
+loop-again : tie.Need-loop-again Inv-loop μ-loop
+loop-again c =
+    let turn = c .before .before .before .before in
+    let loop = turn .before .loop in
+    let start = turn .before .before .before .before .before .before in
+    let output = at turn in
+    let read = c .before .before .lanes-at .ensures in
+    let line = getD (outputLines (start .args .c .now)) (loop .o) 0 in
+    let below : loop .o < O (start .args .c .now) = omega (arith, turn .loop-test .taken, start .pre .2) in (
+      omega (arith, turn .loop-test .taken),
+      λ lane f vs l e.
+          opposing-more lane _ (outputs _ f vs) _ _ _ _ (rw (length-outputs _ f vs) below) (omega (arith, below, start .pre .2, start .pre .4)) (shown-at _ f vs _ below) (loop .inv .1 lane f vs l e)
+          (c .opposing .ensures lane (getD vs line X) (lane-read lane _ vs _ _ _ line l (read .0) (read .1) (output .line) (omega (arith, output .below, output .line, e)))),
+    )
+
+-- src/lib.rt:150:1
+returns : tie.Need-returns Inv-loop μ-loop
+returns c = λ lane f vs l e.
+    let start = c .before .before .before .before .before .before in
+    opposing-all lane _ (outputs _ f vs) _ (c .before .loop .o) (let long = length-outputs (start .args .c .now) f vs in omega (arith, long, c .before .loop .inv .0, c .loop-test .left, start .pre .2)) (c .before .loop .inv .1 lane f vs l e)
+
+pub opposing-spec : {M : Type 1} → statement M
+opposing-spec =
+    tie.close
+    (tie.spec
+    Inv-loop
+    μ-loop
+    loop-holds
+    mul-lanes-at
+    shared-slice-read-lanes-at
+    lanes-at-requires
+    shared-slice-read-opposing
+    opposing-requires
+    add-o
+    loop-less
+    loop-again
+    returns)
