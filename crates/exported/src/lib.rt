@@ -42,7 +42,7 @@ fn detect(c: &[u8], job: Job, t: &[u8], fs: &[u8], free: &[u8]) -> u64
 }
 
 // Up to 64 faults, of which bit j of the result says whether plain simulation detects fault j, given the responses of the fault-free
-// circuit; 0 where an input is not accepted.
+// circuit. A lane past the end of the list has no fault. The result is 0 where an input is not accepted.
 #[no_mangle]
 pub extern "C" fn balithoomai_detected(
     circuit: &[u8],

@@ -9,6 +9,7 @@ use borrow.Author.Tests.{eq-eqb, ne-eqb, eqb-true, eqb-false}
 use lib.Dec.{eqb}
 use lib.ListN.{length, getD, set, length-set, replicate, length-replicate, getD-replicate, List·getD-eq-default}
 use lib.Seq.{getD-set-same, getD-set-other}
+use Rattle.lists.proofs.Tests.{by-test}
 use Rattle.model.specs.Inputs.{Fault}
 use Rattle.model.specs.Values.{X}
 use Rattle.model.specs.Simulation.{noFault, isStuck, seen}
@@ -16,10 +17,6 @@ use Rattle.lanes.specs.Lane.{Shows}
 use Rattle.lanes.proofs.Laws.{shows-x}
 use Rattle.unit.specs.Unit.{Stuck}
 use Rattle.faults.specs.Given.{Blank, OnlyAt, InRows}
-
-by-test : {A : Type 0} (b : Bool) → (b ≡ true → A) → (b ≡ false → A) → A
-by-test true f g = f refl
-by-test false f g = g refl
 
 -- a case on two numbers
 pub by-eq : {A : Type 0} (m n : ℕ) → (m ≡ n → A) → ((m ≡ n → ⊥) → A) → A

@@ -10,6 +10,7 @@ use borrow.Author.Tests.{eqb-true, eq-eqb}
 use lib.ListN.{getD, length, set, length-set, length-append, List·getD-append}
 use lib.Seq.{getD-at, getD-set-same, getD-set-other}
 use lib.Bits.{bitAnd, bitOr, bitXor}
+use Rattle.lists.proofs.Tests.{by-test, or-false}
 use Rattle.model.specs.Values.{invert, andPair, xorPair, andOf, orOf, invertAll, xorOf, evenGate, opposes}
 use Rattle.lanes.specs.Lane.{bit, is0, is1, Shows, Lane}
 use Rattle.lanes.proofs.Bits.{bit-and, bit-or, bit-xor, bit-none, bit-all, bit-one, xorB}
@@ -189,14 +190,6 @@ module _ (t z o k v : ℕ) (ws : List ℕ) where
   pub more-4 : k ≡ 4 → ((w : ℕ) → w ≡ evenGate k ws → Shows t z o (xorPair v w)) → Shows t z o (evenGate k (v ∷ ws))
   unfolding evenGate xorOf
   more-4 e h = rw e (h (xorOf ws) (rw e))
-
-by-test : {A : Type 0} (b : Bool) → (b ≡ true → A) → (b ≡ false → A) → A
-by-test true f g = f refl
-by-test false f g = g refl
-
-or-false : (b : Bool) → (b || false) ≡ b
-or-false true = refl
-or-false false = refl
 
 -- one lane is given a value
 module _ (s t z o w v : ℕ) (hs : s < 64) (ht : t < 64) (h : Shows s z o w) (free : s ≡ t → w ≡ 2) where

@@ -297,6 +297,12 @@ unfolding gather
 gather-same g h e zero = refl
 gather-same g h e (suc n) = rw (gather-same g h e n, e n)
 
+-- within the list the default does not matter
+pub getD-any : (l : List ℕ) (i d e : ℕ) → i < length l → getD l i d ≡ getD l i e
+getD-any [] i d e h = absurd (let z : ⊥ = omega arith in z)
+getD-any (x ∷ l) zero d e h = refl
+getD-any (x ∷ l) (suc i) d e h = getD-any l i d e (omega arith)
+
 pub map-take : (g : ℕ → ℕ) (xs : List ℕ) (n : ℕ) → n < length xs → map g (take (n + 1) xs) ≡ map g (take n xs) ++ (g (getD xs n 0) ∷ [])
 map-take g [] n h = absurd (let z : ⊥ = omega arith in z)
 map-take g (x ∷ xs) zero h = refl

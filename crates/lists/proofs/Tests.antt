@@ -1,4 +1,4 @@
--- Laws of tests: what a conjunction or a disjunction tells of its parts, and a case on a test that keeps what it found.
+-- Laws of tests: what a conjunction or a disjunction tells of its parts, and cases on a test.
 use mathlib.Core.Path.{_≡_, refl, sym, _∙_}
 use mathlib.Core.Bool.{Bool, true, false, cond, _&&_, _||_, false≢true, true≢false}
 
@@ -42,3 +42,16 @@ is-false false h = refl
 pub is-true : (t : Bool) → (t ≡ false → ⊥) → t ≡ true
 is-true true h = refl
 is-true false h = absurd (h refl)
+
+-- a case on a test that keeps what it found
+pub by-test : {A : Type 0} (t : Bool) → (t ≡ true → A) → (t ≡ false → A) → A
+by-test true f g = f refl
+by-test false f g = g refl
+
+pub or-false : (t : Bool) → (t || false) ≡ t
+or-false true = refl
+or-false false = refl
+
+pub or-assoc : (r s t : Bool) → ((r || s) || t) ≡ (r || (s || t))
+or-assoc true s t = refl
+or-assoc false s t = refl

@@ -10,8 +10,8 @@ use native.Mathlib.Numerals.{add-one}
 use native.Mathlib.Omega.{arith}
 use native.Mathlib.Nat.{mul-le-mul, mul-le-mul-left, mul-suc, mul-comm}
 use Rattle.lists.specs.Scan.{anyBelow, gather}
-use Rattle.lists.proofs.Scan.{All, all-at, select-all, length-select, length-gather, gather-turn, anyBelow-more, countBelow-bound}
-use Rattle.lists.proofs.Tests.{and-left}
+use Rattle.lists.proofs.Scan.{All, all-at, select-all, length-select, length-gather, gather-turn, getD-any, anyBelow-more, countBelow-bound}
+use Rattle.lists.proofs.Tests.{and-left, or-false, or-assoc}
 use Rattle.model.specs.Inputs.{N, I, F, O, L, isInput, isOutput, outputLines, inputsAt, Fault}
 use Rattle.model.specs.Accepted.{ValidCircuit, ValidTest, ThreeValued}
 use Rattle.model.specs.Values.{X, opposes, someOppose}
@@ -25,7 +25,6 @@ use Rattle.circuit.specs.Table.{Listed}
 use Rattle.job.specs.Job.{JobOf}
 use Rattle.job.specs.declared.Job.{Job}
 use Rattle.unit.specs.Unit.{Stuck}
-use Rattle.unit.proofs.Laws.{getD-any}
 use Rattle.run.specs.Run.{rowOf, runRow}
 
 -- record u of a table of n records of size i
@@ -104,22 +103,14 @@ module _ (c : List ℕ) (f : Fault) (vs : List ℕ) where
       mapped = unfold outputs shown in List·getD-map (λ n. getD vs n X) (outputLines c) o 0
 
 -- ---- the lanes in which an output opposes
-or-assoc : (a b c : Bool) → ((a || b) || c) ≡ (a || (b || c))
-or-assoc true b c = refl
-or-assoc false b c = refl
-
-or-none : (a : Bool) → (a || false) ≡ a
-or-none true = refl
-or-none false = refl
-
 someOppose-more : (row bs : List ℕ) (v : ℕ) → length bs < length row → someOppose row (bs ++ (v ∷ [])) ≡ (someOppose row bs || opposes (getD row (length bs) 0) v)
 unfolding someOppose
 someOppose-more [] bs v h = absurd (let z : ⊥ = omega arith in z)
 someOppose-more (a ∷ row) [] v h = alone row
   where
     alone : (row : List ℕ) → (opposes a v || someOppose row []) ≡ opposes a v
-    alone [] = or-none (opposes a v)
-    alone (b ∷ row) = or-none (opposes a v)
+    alone [] = or-false (opposes a v)
+    alone (b ∷ row) = or-false (opposes a v)
 someOppose-more (a ∷ row) (b ∷ bs) v h = rw (someOppose-more row bs v (omega arith)) (sym (or-assoc (opposes a b) (someOppose row bs) (opposes (getD row (length bs) 0) v)))
 
 module _ (lane : ℕ) (row bs : List ℕ) where

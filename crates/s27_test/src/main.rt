@@ -22,12 +22,11 @@ fn opposite(a: u8, b: u8) -> bool {
 }
 
 // The first place where they are opposite, or how many places there are.
-fn first_opposite(free: &[u8], faulty: &[u8]) -> usize {
+fn first_opposite(free: &[u8], faulty: &[u8]) -> usize
+    requires { ⌜ length (now free) ≤ length (now faulty) ⌝ }
+{
     let mut i: usize = 0;
     while i < free.len() {
-        if faulty.len() <= i {
-            return free.len();
-        }
         if opposite(free[i], faulty[i]) {
             return i;
         }
@@ -39,6 +38,10 @@ fn first_opposite(free: &[u8], faulty: &[u8]) -> usize {
 fn print_time(free: &[u8], faulty: &[u8], outputs: usize)
     requires { ⌜ 0 < outputs ⌝ }
 {
+    if faulty.len() < free.len() {
+        print(b" refused\n");
+        return;
+    }
     let place = first_opposite(free, faulty);
     if free.len() <= place {
         print(b" never\n");
@@ -88,6 +91,10 @@ fn print_faults(circuit: &[u8], test: &[u8], faults: &[u8], free: &[u8], outputs
 fn run(circuit: &[u8], test: &[u8], faults: &[u8]) {
     let mut free = [0u8; 256];
     let size = respond(circuit, test, b"", &mut free);
+    if size == 0 {
+        print(b"refused\n");
+        return;
+    }
     if 256 < size {
         return;
     }

@@ -9,7 +9,7 @@ use borrow.Author.Tests.{eq-eqb, ne-eqb, le-leb}
 use lib.ListN.{length, getD, set, take, length-map, length-take}
 use lib.Seq.{take-length}
 use Rattle.lists.specs.Scan.{countBelow, tabulate}
-use Rattle.lists.proofs.Scan.{map-take, countBelow-less}
+use Rattle.lists.proofs.Scan.{getD-any, map-take, countBelow-less}
 use Rattle.model.specs.Inputs.{N, kind, pinCount, pinLine, isInput, isFlipFlop, isGate, I, F, flipFlops, flipFlopLine, Fault}
 use Rattle.model.specs.Accepted.{ValidCircuit}
 use Rattle.model.specs.Values.{X, evenGate, gate, invertIf, inverts}
@@ -19,12 +19,6 @@ use Rattle.lanes.specs.Lane.{Shows, Lane}
 use Rattle.lanes.proofs.Laws.{lane-at, lane-add, lane-none}
 use Rattle.circuit.specs.Table.{Listed}
 use Rattle.unit.specs.Unit.{StuckAt, Stuck}
-
--- within the list the default does not matter
-pub getD-any : (l : List ℕ) (i d e : ℕ) → i < length l → getD l i d ≡ getD l i e
-getD-any [] i d e h = absurd (let z : ⊥ = omega arith in z)
-getD-any (x ∷ l) zero d e h = refl
-getD-any (x ∷ l) (suc i) d e h = getD-any l i d e (omega arith)
 
 -- the words that were read at place m
 pub lane-read : (t : ℕ) (ws vs : List ℕ) (m z o i : ℕ) → Lane t ws vs → z ≡ getD ws (2 * m) 0 → o ≡ getD ws (2 * m + 1) 0 → m ≡ i → i < length vs
@@ -48,26 +42,26 @@ module _ (t z o v : ℕ) (masks : List ℕ) (row : ℕ) (f : Fault) (n pin : ℕ
   seen-held g l h = h (isStuck f n pin) (f .value) (s .binary) (s .held g pin l)
 
 -- ---- a gate's pins, by how many it has
-module _ (t z o k : ℕ) (c : List ℕ) (f : Fault) (vs : List ℕ) (n : ℕ) where
-  -- what the gate of these pins gives
-  unfoldable pub Gives : List ℕ → Type 0
-  Gives pins = Shows t z o (invertIf (inverts k) (evenGate (k / 2) pins))
+module _ (c : List ℕ) (f : Fault) (vs : List ℕ) (n : ℕ) where
+  pub pins-1 : pinCount c n ≡ 1 → pinsSeen c f vs n ≡ pinSeen c f vs n 1 ∷ []
+  unfolding pinsSeen tabulate
+  pins-1 e = rw e
 
-  pub pins-1 : pinCount c n ≡ 1 → Gives (pinSeen c f vs n 1 ∷ []) → Shows t z o (gate k (pinsSeen c f vs n))
-  unfolding Gives gate pinsSeen tabulate
-  pins-1 e h = rw e h
+  pub pins-2 : pinCount c n ≡ 2 → pinsSeen c f vs n ≡ pinSeen c f vs n 1 ∷ pinSeen c f vs n 2 ∷ []
+  unfolding pinsSeen tabulate
+  pins-2 e = rw e
 
-  pub pins-2 : pinCount c n ≡ 2 → Gives (pinSeen c f vs n 1 ∷ pinSeen c f vs n 2 ∷ []) → Shows t z o (gate k (pinsSeen c f vs n))
-  unfolding Gives gate pinsSeen tabulate
-  pins-2 e h = rw e h
+  pub pins-3 : pinCount c n ≡ 3 → pinsSeen c f vs n ≡ pinSeen c f vs n 1 ∷ pinSeen c f vs n 2 ∷ pinSeen c f vs n 3 ∷ []
+  unfolding pinsSeen tabulate
+  pins-3 e = rw e
 
-  pub pins-3 : pinCount c n ≡ 3 → Gives (pinSeen c f vs n 1 ∷ pinSeen c f vs n 2 ∷ pinSeen c f vs n 3 ∷ []) → Shows t z o (gate k (pinsSeen c f vs n))
-  unfolding Gives gate pinsSeen tabulate
-  pins-3 e h = rw e h
+  pub pins-4 : pinCount c n ≡ 4 → pinsSeen c f vs n ≡ pinSeen c f vs n 1 ∷ pinSeen c f vs n 2 ∷ pinSeen c f vs n 3 ∷ pinSeen c f vs n 4 ∷ []
+  unfolding pinsSeen tabulate
+  pins-4 e = rw e
 
-  pub pins-4 : pinCount c n ≡ 4 → Gives (pinSeen c f vs n 1 ∷ pinSeen c f vs n 2 ∷ pinSeen c f vs n 3 ∷ pinSeen c f vs n 4 ∷ []) → Shows t z o (gate k (pinsSeen c f vs n))
-  unfolding Gives gate pinsSeen tabulate
-  pins-4 e h = rw e h
+pub shows-gate : (t z o k : ℕ) (pins seen : List ℕ) → pins ≡ seen → Shows t z o (invertIf (inverts k) (evenGate (k / 2) seen)) → Shows t z o (gate k pins)
+unfolding gate
+shows-gate t z o k pins seen e h = rw e h
 
 -- ---- what stands behind a line, by its kind
 module _ (t z o : ℕ) (c : List ℕ) (f : Fault) (inputs st vs : List ℕ) (n : ℕ) where

@@ -78,7 +78,7 @@ fn gate_lanes(c: &[u8], masks: &[u64], words: &[u64], n: usize, k: u8, row: usiz
         .finish(k)
 }
 
-// With no fault at the gate, which is the rule, the tests of the row fall away.
+// With no fault at the gate, which is the rule, the literal row 0 lets the compiler drop every test of the row.
 fn any_gate(c: &[u8], masks: &[u64], words: &[u64], n: usize, k: u8, row: usize) -> Lanes
     requires { ⌜ (ValidCircuit (now c)) × (n < N (now c)) × (k ≡ kind (now c) n) × (2 ≤ k) × (MaskRoom (now masks)) × (row < 256) × (Room n (now words)) ⌝ }
     ensures { λ r. ⌜ ((t : ℕ) (f : Fault) (vs : List ℕ) → StuckAt t (now (masks .entry)) row f n → Lane t (now (words .entry)) vs → length vs ≡ n → Holds t r (gate k (pinsSeen (now (c .entry)) f vs n))) ⌝ }

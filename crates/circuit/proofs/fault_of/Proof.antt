@@ -8,43 +8,33 @@ use Rattle.circuit.proofs.fault_of.Lts as lts
 use Rattle.circuit.proofs.wide.Reads as wide-reads
 use Rattle.circuit.proofs.word_at.Reads as word-at-reads
 
--- src/lib.rt:84:27
 mul-word-at : tie.Need-mul-word-at
 mul-word-at c = search needs
 
--- src/lib.rt:84:15
 word-at-requires : tie.Need-word-at-requires
 word-at-requires c κs = search needs
 
--- src/lib.rt:85:22
 mul-wide : tie.Need-mul-wide
 mul-wide c = search needs
 
--- src/lib.rt:85:22
 add-wide : tie.Need-add-wide
 add-wide c = search needs
 
--- src/lib.rt:85:19
 shared-slice-read-wide : tie.Need-shared-slice-read-wide
 shared-slice-read-wide c = search needs
 
--- src/lib.rt:85:14
 wide-requires : tie.Need-wide-requires
 wide-requires c κs = search needs
 
--- src/lib.rt:86:19
 mul-t10 : tie.Need-mul-t10
 mul-t10 c = search needs
 
--- src/lib.rt:86:19
 add-t11 : tie.Need-add-t11
 add-t11 c = search needs
 
--- src/lib.rt:86:16
 shared-slice-read-t13 : tie.Need-shared-slice-read-t13
 shared-slice-read-t13 c = search needs
 
--- src/lib.rt:79:1
 returns : tie.Need-returns
 unfolding faultAt
 returns c = record { line = c .before .before .before .word-at .ensures .0; pin = c .before .wide .ensures .0; value = refl }

@@ -6,15 +6,12 @@ use Rattle.circuit.proofs.kind_of.Tie as tie
 use Rattle.circuit.proofs.kind_of.Reads as reads
 use Rattle.circuit.proofs.kind_of.Lts as lts
 
--- src/lib.rt:36:7
 mul-result : tie.Need-mul-result
 mul-result c = search needs
 
--- src/lib.rt:36:5
 shared-slice-read-result : tie.Need-shared-slice-read-result
 shared-slice-read-result c = search needs
 
--- src/lib.rt:32:1
 returns : tie.Need-returns
 unfolding kind
 returns c = refl

@@ -7,18 +7,15 @@ use Rattle.circuit.proofs.list_flops.Reads as reads
 use Rattle.circuit.proofs.list_flops.Lts as lts
 use Rattle.circuit.proofs.list_lines.Reads as list-lines-reads
 
--- src/lib.rt:123:5
 list-lines-requires : tie.Need-list-lines-requires
 list-lines-requires c κs =
     let start = c .before .before .before in
     let valid = start .pre .0 in
     rw (start .pre .1, flops-bytes (start .args .c .now) .1) (valid .size, valid .lines, omega arith, omega (arith, valid .flipFlops, start .pre .2))
 
--- src/lib.rt:119:1
 same-length : tie.Need-same-length
 same-length c = search needs
 
--- src/lib.rt:119:1
 returns : tie.Need-returns
 returns c =
     let start = c .before .before .before .before .before .before in

@@ -8,27 +8,21 @@ use Rattle.circuit.proofs.list_if.Tie as tie
 use Rattle.circuit.proofs.list_if.Reads as reads
 use Rattle.circuit.proofs.list_if.Lts as lts
 
--- src/lib.rt:278:9
 returns : tie.Need-returns
 returns c = let no : c .before .args .yes ≡ false = not-true _ (c .if1 .taken) in rw no (omega arith, refl)
 
--- src/lib.rt:280:5
 mul-table : tie.Need-mul-table
 mul-table c = search needs
 
--- src/lib.rt:280:5
 slice-write-table : tie.Need-slice-write-table
 slice-write-table c = c .before .pre .1 (not-false _ (c .if1 .left))
 
--- src/lib.rt:281:5
 add-result : tie.Need-add-result
 add-result c = search needs
 
--- src/lib.rt:273:1
 same-length : tie.Need-same-length
 same-length c = search needs
 
--- src/lib.rt:273:1
 returns-2 : tie.Need-returns-2
 returns-2 c = let yes : c .before .args .yes ≡ true = not-false _ (c .if1 .left) in rw yes (refl, refl)
 

@@ -20,24 +20,19 @@ Inv-loop c lines byte table₀ s₀ n₀ table s n =
 abbrev μ-loop : tie.MeasureT-loop
 μ-loop c lines byte table₀ s₀ n₀ table s n = lines - n
 
--- src/lib.rt:291:5
 loop-holds : tie.Need-loop-holds Inv-loop μ-loop
 unfolding countBelow
 loop-holds c = (omega arith, omega arith, refl, refl, listed-none _ _)
 
--- src/lib.rt:292:36
 mul-list-if : tie.Need-mul-list-if Inv-loop μ-loop
 mul-list-if c = omega arith
 
--- src/lib.rt:292:36
 add-list-if : tie.Need-add-list-if Inv-loop μ-loop
 add-list-if c = omega arith
 
--- src/lib.rt:292:34
 shared-slice-read-list-if : tie.Need-shared-slice-read-list-if Inv-loop μ-loop
 shared-slice-read-list-if c = omega arith
 
--- src/lib.rt:292:9
 list-if-requires : tie.Need-list-if-requires Inv-loop μ-loop
 unfolding byteIsOne
 list-if-requires c κs =
@@ -48,15 +43,12 @@ list-if-requires c κs =
       listed-room _ _ _ _ _ (λ m. byteIsOne (start .args .c .now) (start .args .byte) m) (start .pre .3) (inv .2) (inv .3) (c .before .before .loop-test .taken),
     )
 
--- src/lib.rt:293:9
 add-n : tie.Need-add-n Inv-loop μ-loop
 add-n c = omega arith
 
--- src/lib.rt:291:5
 loop-less : tie.Need-loop-less Inv-loop μ-loop
 loop-less c = omega arith
 
--- src/lib.rt:291:5
 loop-again : tie.Need-loop-again Inv-loop μ-loop
 unfolding byteIsOne
 loop-again c =
@@ -74,11 +66,9 @@ loop-again c =
       listed-turn one table _ _ (turn .loop .n) _ refl (inv .2) (listed-room _ _ _ _ _ one (start .pre .3) (inv .2) (inv .3) (c .before .before .before .before .before .loop-test .taken)) (listed .1) (inv .4),
     )
 
--- src/lib.rt:285:1
 same-length : tie.Need-same-length Inv-loop μ-loop
 same-length c = c .before .loop .inv .3
 
--- src/lib.rt:285:1
 returns : tie.Need-returns Inv-loop μ-loop
 returns c =
     let loop = c .before .loop in

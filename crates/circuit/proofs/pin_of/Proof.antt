@@ -7,27 +7,21 @@ use Rattle.circuit.proofs.pin_of.Reads as reads
 use Rattle.circuit.proofs.pin_of.Lts as lts
 use Rattle.circuit.proofs.word_at.Reads as word-at-reads
 
--- src/lib.rt:75:16
 mul-word-at : tie.Need-mul-word-at
 mul-word-at c = search needs
 
--- src/lib.rt:75:16
 add-word-at : tie.Need-add-word-at
 add-word-at c = search needs
 
--- src/lib.rt:75:29
 mul-word-at-2 : tie.Need-mul-word-at-2
 mul-word-at-2 c = search needs
 
--- src/lib.rt:75:16
 add-word-at-2 : tie.Need-add-word-at-2
 add-word-at-2 c = search needs
 
--- src/lib.rt:75:5
 word-at-requires : tie.Need-word-at-requires
 word-at-requires c κs = omega arith
 
--- src/lib.rt:71:1
 returns : tie.Need-returns
 unfolding pinLine
 returns c = c .word-at .ensures

@@ -6,23 +6,18 @@ use Rattle.circuit.proofs.pins_of.Reads as reads
 use Rattle.circuit.proofs.pins_of.Lts as lts
 use Rattle.circuit.proofs.wide.Reads as wide-reads
 
--- src/lib.rt:43:12
 mul-wide : tie.Need-mul-wide
 mul-wide c = search needs
 
--- src/lib.rt:43:12
 add-wide : tie.Need-add-wide
 add-wide c = search needs
 
--- src/lib.rt:43:10
 shared-slice-read-wide : tie.Need-shared-slice-read-wide
 shared-slice-read-wide c = search needs
 
--- src/lib.rt:43:5
 wide-requires : tie.Need-wide-requires
 wide-requires c κs = search needs
 
--- src/lib.rt:39:1
 returns : tie.Need-returns
 unfolding pinCount
 returns c = (c .wide .ensures .0, c .wide .ensures .1)

@@ -20,52 +20,40 @@ Inv-loop c lines inputs₀ flops₀ outputs₀ n₀ inputs flops outputs n =
 abbrev μ-loop : tie.MeasureT-loop
 μ-loop c lines inputs₀ flops₀ outputs₀ n₀ inputs flops outputs n = lines - n
 
--- src/lib.rt:216:5
 loop-holds : tie.Need-loop-holds Inv-loop μ-loop
 unfolding countBelow
 loop-holds c = (omega arith, omega arith, omega arith, omega arith, refl, refl, refl)
 
--- src/lib.rt:217:13
 kind-of-requires : tie.Need-kind-of-requires Inv-loop μ-loop
 kind-of-requires c κs = omega arith
 
--- src/lib.rt:218:19
 one-if-requires : tie.Need-one-if-requires Inv-loop μ-loop
 one-if-requires c κs = tt
 
--- src/lib.rt:218:9
 add-inputs : tie.Need-add-inputs Inv-loop μ-loop
 add-inputs c = omega arith
 
--- src/lib.rt:219:18
 one-if-requires-2 : tie.Need-one-if-requires-2 Inv-loop μ-loop
 one-if-requires-2 c κs = tt
 
--- src/lib.rt:219:9
 add-flops : tie.Need-add-flops Inv-loop μ-loop
 add-flops c = omega arith
 
--- src/lib.rt:220:27
 mark-of-requires : tie.Need-mark-of-requires Inv-loop μ-loop
 mark-of-requires c κs = omega arith
 
--- src/lib.rt:220:20
 one-if-requires-3 : tie.Need-one-if-requires-3 Inv-loop μ-loop
 one-if-requires-3 c κs = tt
 
--- src/lib.rt:220:9
 add-outputs : tie.Need-add-outputs Inv-loop μ-loop
 add-outputs c = omega arith
 
--- src/lib.rt:221:9
 add-n : tie.Need-add-n Inv-loop μ-loop
 add-n c = omega arith
 
--- src/lib.rt:216:5
 loop-less : tie.Need-loop-less Inv-loop μ-loop
 loop-less c = omega arith
 
--- src/lib.rt:216:5
 loop-again : tie.Need-loop-again Inv-loop μ-loop
 unfolding isInput isFlipFlop isOutput
 loop-again c =
@@ -81,7 +69,6 @@ loop-again c =
       rw (countBelow-turn, c .one-if3 .ensures .0, c .before .mark-of .ensures, inv .6),
     )
 
--- src/lib.rt:208:1
 returns : tie.Need-returns Inv-loop μ-loop
 unfolding I F O
 returns c =

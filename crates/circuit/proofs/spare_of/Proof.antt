@@ -6,19 +6,15 @@ use Rattle.circuit.proofs.spare_of.Tie as tie
 use Rattle.circuit.proofs.spare_of.Reads as reads
 use Rattle.circuit.proofs.spare_of.Lts as lts
 
--- src/lib.rt:57:7
 mul-result : tie.Need-mul-result
 mul-result c = search needs
 
--- src/lib.rt:57:7
 add-result : tie.Need-add-result
 add-result c = search needs
 
--- src/lib.rt:57:5
 shared-slice-read-result : tie.Need-shared-slice-read-result
 shared-slice-read-result c = search needs
 
--- src/lib.rt:53:1
 returns : tie.Need-returns
 unfolding spareByte
 returns c = refl

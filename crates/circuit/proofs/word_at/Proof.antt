@@ -7,35 +7,27 @@ use Rattle.circuit.proofs.word_at.Reads as reads
 use Rattle.circuit.proofs.word_at.Lts as lts
 use Rattle.circuit.proofs.wide.Reads as wide-reads
 
--- src/lib.rt:37:20
 shared-slice-read-wide : tie.Need-shared-slice-read-wide
 shared-slice-read-wide c = search needs
 
--- src/lib.rt:37:9
 wide-requires : tie.Need-wide-requires
 wide-requires c κs = search needs
 
--- src/lib.rt:38:27
 add-wide : tie.Need-add-wide
 add-wide c = search needs
 
--- src/lib.rt:38:21
 shared-slice-read-wide-2 : tie.Need-shared-slice-read-wide-2
 shared-slice-read-wide-2 c = search needs
 
--- src/lib.rt:38:9
 wide-requires-2 : tie.Need-wide-requires-2
 wide-requires-2 c κs = search needs
 
--- src/lib.rt:39:11
 mul-result : tie.Need-mul-result
 mul-result c = search needs
 
--- src/lib.rt:39:5
 add-result : tie.Need-add-result
 add-result c = search needs
 
--- src/lib.rt:33:1
 returns : tie.Need-returns
 unfolding word16
 returns c = (rw (c .before .before .wide .ensures .0, c .wide2 .ensures .0), omega arith)

@@ -17,15 +17,12 @@ use Rattle.exported.proofs.detect.Reads as detect-reads
 use Rattle.job.proofs.check_inputs.Reads as check-inputs-reads
 use Rattle.job.proofs.job_of.Reads as job-of-reads
 
--- src/lib.rt:50:9
 check-inputs-requires : tie.Need-check-inputs-requires
 check-inputs-requires c κs = search needs
 
--- src/lib.rt:51:28
 enum-known-check : tie.Need-enum-known-check
 enum-known-check c = search needs
 
--- src/lib.rt:52:9
 returns : tie.Need-returns
 unfolding refusalOf
 returns c = λ j h.
@@ -41,27 +38,22 @@ passed c =
     let told : c .before .before .check-inputs .result ≡ Passed = c .enum-told .given .1 in
     sym (c .before .before .check-inputs .ensures) ∙ ap refusalOf told
 
--- src/lib.rt:54:9
 job-of-requires : tie.Need-job-of-requires
 job-of-requires c κs = let inputs = accepted _ _ _ _ _ (passed c) in (inputs .circuit, inputs .test)
 
--- src/lib.rt:55:21
 mul-if1 : tie.Need-mul-if1
 mul-if1 c = let l = c .before .job-of .ensures .1 in omega (arith, mul-le-mul (l .units) (l .outputs))
 
--- src/lib.rt:56:9
 returns-2 : tie.Need-returns-2
 returns-2 c = λ j h.
     let job = c .before .before .job-of .ensures .0 in
     none-short _ _ _ _ j (passed (c .before .before .before)) (rw (← (job .units), ← (job .outputs)) (c .if1 .taken))
 
--- src/lib.rt:58:5
 detect-requires : tie.Need-detect-requires
 detect-requires c κs =
     let job = c .before .before .job-of .ensures .0 in
     (accepted _ _ _ _ _ (passed (c .before .before .before)), job, rw (← (job .units), ← (job .outputs)) (omega (arith, c .if1 .left)))
 
--- src/lib.rt:46:1
 returns-3 : tie.Need-returns-3
 returns-3 c = λ j h.
     let job = c .before .before .before .job-of .ensures .0 in

@@ -18,69 +18,53 @@ use Rattle.faults.proofs.give_group.Reads as give-group-reads
 use Rattle.run.proofs.opposing_ever.Reads as opposing-ever-reads
 use Rattle.run.proofs.power_up.Reads as power-up-reads
 
--- src/lib.rt:24:39
 slice-aggregate-list-flops : tie.Need-slice-aggregate-list-flops
 slice-aggregate-list-flops c = search needs
 
--- src/lib.rt:24:5
 list-flops-requires : tie.Need-list-flops-requires
 list-flops-requires c κs = search needs
 
--- src/lib.rt:25:41
 slice-aggregate-list-outputs : tie.Need-slice-aggregate-list-outputs
 slice-aggregate-list-outputs c = search needs
 
--- src/lib.rt:25:5
 list-outputs-requires : tie.Need-list-outputs-requires
 list-outputs-requires c κs = search needs
 
--- src/lib.rt:26:45
 slice-aggregate-give-group : tie.Need-slice-aggregate-give-group
 slice-aggregate-give-group c = search needs
 
--- src/lib.rt:26:56
 slice-aggregate-give-group-2 : tie.Need-slice-aggregate-give-group-2
 slice-aggregate-give-group-2 c = search needs
 
--- src/lib.rt:26:5
 give-group-requires : tie.Need-give-group-requires
 give-group-requires c κs =
     let inputs = c .before .before .before .before .before .before .before .before .before .before .before .before .pre .0 in
     (blank-zeros 4096 2560, whole-group _ _ _ inputs, omega arith, omega arith)
 
--- src/lib.rt:27:33
 slice-aggregate-power-up : tie.Need-slice-aggregate-power-up
 slice-aggregate-power-up c = search needs
 
--- src/lib.rt:27:5
 power-up-requires : tie.Need-power-up-requires
 power-up-requires c κs = search needs
 
--- src/lib.rt:35:9
 slice-aggregate-opposing-ever : tie.Need-slice-aggregate-opposing-ever
 slice-aggregate-opposing-ever c = search needs
 
--- src/lib.rt:36:9
 slice-aggregate-opposing-ever-2 : tie.Need-slice-aggregate-opposing-ever-2
 slice-aggregate-opposing-ever-2 c = search needs
 
--- src/lib.rt:37:9
 slice-aggregate-opposing-ever-3 : tie.Need-slice-aggregate-opposing-ever-3
 slice-aggregate-opposing-ever-3 c = search needs
 
--- src/lib.rt:38:9
 slice-aggregate-opposing-ever-4 : tie.Need-slice-aggregate-opposing-ever-4
 slice-aggregate-opposing-ever-4 c = search needs
 
--- src/lib.rt:39:9
 slice-aggregate-opposing-ever-5 : tie.Need-slice-aggregate-opposing-ever-5
 slice-aggregate-opposing-ever-5 c = search needs
 
--- src/lib.rt:40:9
 slice-aggregate-opposing-ever-6 : tie.Need-slice-aggregate-opposing-ever-6
 slice-aggregate-opposing-ever-6 c = search needs
 
--- src/lib.rt:28:5
 opposing-ever-requires : tie.Need-opposing-ever-requires
 opposing-ever-requires c κs =
     let pre = c .before .before .before .before .before .before .before .before .before .before .before .before .before .before .before .before .before .before .before .before .before .before .before .before .pre in
@@ -100,7 +84,6 @@ opposing-ever-requires c κs =
       rw (pre .1 .units) (pre .2),
     )
 
--- src/lib.rt:14:1
 returns : tie.Need-returns
 returns c = λ j h.
     let start = c .before .before .before .before .before .before .before .before .before .before .before .before .before .before .before .before .before .before .before .before .before .before .before .before .before .before .before in

@@ -16,35 +16,27 @@ Inv-loop masks₀ count i₀ masks i =
 abbrev μ-loop : tie.MeasureT-loop
 μ-loop masks₀ count i₀ masks i = 10 * (count + 1) - i
 
--- src/lib.rt:91:5
 loop-holds : tie.Need-loop-holds Inv-loop μ-loop
 loop-holds c = (omega arith, omega arith, refl, λ k h. c .pre .0 .below k h, λ k h. c .pre .0 .above k h)
 
--- src/lib.rt:91:21
 add-loop : tie.Need-add-loop Inv-loop μ-loop
 add-loop c = omega arith
 
--- src/lib.rt:91:15
 mul-loop : tie.Need-mul-loop Inv-loop μ-loop
 mul-loop c = omega arith
 
--- src/lib.rt:92:9
 mul-masks : tie.Need-mul-masks Inv-loop μ-loop
 mul-masks c = omega arith
 
--- src/lib.rt:92:9
 slice-write-masks : tie.Need-slice-write-masks Inv-loop μ-loop
 slice-write-masks c = omega arith
 
--- src/lib.rt:93:9
 add-i : tie.Need-add-i Inv-loop μ-loop
 add-i c = omega arith
 
--- src/lib.rt:91:5
 loop-less : tie.Need-loop-less Inv-loop μ-loop
 loop-less c = omega arith
 
--- src/lib.rt:91:5
 loop-again : tie.Need-loop-again Inv-loop μ-loop
 loop-again c =
     let at = c .before in
@@ -56,11 +48,9 @@ loop-again c =
       λ k h. set-zero (at .loop .masks) (at .loop .i) k short (λ e. at .loop .inv .4 k h),
     )
 
--- src/lib.rt:86:1
 same-length : tie.Need-same-length Inv-loop μ-loop
 same-length c = c .before .loop .inv .2
 
--- src/lib.rt:86:1
 returns : tie.Need-returns Inv-loop μ-loop
 returns c = λ i. elim (decLe (i + 1) (c .before .loop .i)) [
   | yes g ↦ c .before .loop .inv .3 i (omega arith)

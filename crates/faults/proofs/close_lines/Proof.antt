@@ -16,33 +16,26 @@ Inv-loop fs from count hits₀ t₀ hits t = (t ≤ count) × (length hits ≡ l
 abbrev μ-loop : tie.MeasureT-loop
 μ-loop fs from count hits₀ t₀ hits t = count - t
 
--- src/lib.rt:78:5
 loop-holds : tie.Need-loop-holds Inv-loop μ-loop
 loop-holds c = let e : c .before .before .args .from + 0 ≡ c .before .before .args .from = omega arith in (omega arith, refl, rw e (c .before .before .pre .1))
 
--- src/lib.rt:79:29
 add-line-of : tie.Need-add-line-of Inv-loop μ-loop
 add-line-of c = omega (arith, c .before .before .before .before .pre .0 .room)
 
--- src/lib.rt:79:13
 line-of-requires : tie.Need-line-of-requires Inv-loop μ-loop
 line-of-requires c κs = omega (arith, c .before .before .before .before .pre .0 .room)
 
--- src/lib.rt:80:9
 slice-write-hits : tie.Need-slice-write-hits Inv-loop μ-loop
 slice-write-hits c =
     let start = c .before .before .before .before .before in
     omega (arith, c .line-of .ensures .0, start .pre .0 .line (c .before .before .loop .t) (c .before .loop-test .taken), c .before .before .loop .inv .1)
 
--- src/lib.rt:81:9
 add-t : tie.Need-add-t Inv-loop μ-loop
 add-t c = omega arith
 
--- src/lib.rt:78:5
 loop-less : tie.Need-loop-less Inv-loop μ-loop
 loop-less c = omega arith
 
--- src/lib.rt:78:5
 loop-again : tie.Need-loop-again Inv-loop μ-loop
 loop-again c =
     let start = c .before .before .before .before .before in
@@ -53,11 +46,9 @@ loop-again c =
           (omega (arith, c .line-of .ensures .0, start .pre .0 .line (at .loop .t) (c .before .loop-test .taken), at .loop .inv .1)) refl,
     )
 
--- src/lib.rt:73:1
 same-length : tie.Need-same-length Inv-loop μ-loop
 same-length c = c .before .loop .inv .1
 
--- src/lib.rt:73:1
 returns : tie.Need-returns Inv-loop μ-loop
 returns c = named-none _ _ _ _ (omega arith) (c .before .loop .inv .2)
 

@@ -19,59 +19,45 @@ Start c = c .before .before .before .before
 with-row : (c : tie.Joined1) → Rowed (Start c .args .t) (now (Start c .args .hits)) (c .if1 .hits) (now (Start c .args .masks)) (Start c .args .line)
 with-row c = ⊎-elim (λ w. rowed-now _ _ _ _ _ (w .1) (omega arith) (w .0 .taken)) (λ w. rowed-before _ _ _ _ _ (w .1) (w .0 .left)) (c .if1 .came)
 
--- src/lib.rt:39:8
 slice-read-if1 : tie.Need-slice-read-if1
 slice-read-if1 c = search needs
 
--- src/lib.rt:40:23
 add-hits : tie.Need-add-hits
 add-hits c = search needs
 
--- src/lib.rt:40:22
 cast-hits : tie.Need-cast-hits
 cast-hits c = search needs
 
--- src/lib.rt:40:9
 slice-write-hits : tie.Need-slice-write-hits
 slice-write-hits c = search needs
 
--- src/lib.rt:42:32
 slice-read-wide : tie.Need-slice-read-wide
 slice-read-wide c = omega (arith, with-row (c .before) .size)
 
--- src/lib.rt:42:18
 wide-requires : tie.Need-wide-requires
 wide-requires c κs = search needs
 
--- src/lib.rt:42:14
 mul-at : tie.Need-mul-at
 mul-at c = search needs
 
--- src/lib.rt:42:14
 add-at : tie.Need-add-at
 add-at c = search needs
 
--- src/lib.rt:43:9
 lanes-at-requires : tie.Need-lanes-at-requires
 lanes-at-requires c κs = search needs
 
--- src/lib.rt:44:32
 with-requires : tie.Need-with-requires
 with-requires c κs = search needs
 
--- src/lib.rt:44:5
 put-lanes-requires : tie.Need-put-lanes-requires
 put-lanes-requires c κs = search needs
 
--- src/lib.rt:33:1
 same-length : tie.Need-same-length
 same-length c = with-row (c .before .before .before .before .before .before .before .before .before) .size
 
--- src/lib.rt:33:1
 same-length-2 : tie.Need-same-length-2
 same-length-2 c = search needs
 
--- src/lib.rt:33:1
 returns : tie.Need-returns
 returns c =
     let at = c .before .before .before .before .before .before .before .before .before in

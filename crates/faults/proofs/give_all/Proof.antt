@@ -9,31 +9,24 @@ use Rattle.faults.proofs.give_all.Lts as lts
 use Rattle.lanes.proofs.Lanes.all.Reads as all-reads
 use Rattle.unit.proofs.put_lanes.Reads as put-lanes-reads
 
--- src/lib.rt:20:5
 slice-write-hits : tie.Need-slice-write-hits
 slice-write-hits c = search needs
 
--- src/lib.rt:21:28
 add-put-lanes : tie.Need-add-put-lanes
 add-put-lanes c = search needs
 
--- src/lib.rt:21:37
 all-requires : tie.Need-all-requires
 all-requires c κs = search needs
 
--- src/lib.rt:21:5
 put-lanes-requires : tie.Need-put-lanes-requires
 put-lanes-requires c κs = search needs
 
--- src/lib.rt:15:1
 same-length : tie.Need-same-length
 same-length c = search needs
 
--- src/lib.rt:15:1
 same-length-2 : tie.Need-same-length-2
 same-length-2 c = search needs
 
--- src/lib.rt:15:1
 returns : tie.Need-returns
 returns c =
     let start = c .before .before .before .before .before .before .before in

@@ -20,49 +20,38 @@ Inv-loop fs from count hits₀ masks₀ t₀ hits masks t =
 abbrev μ-loop : tie.MeasureT-loop
 μ-loop fs from count hits₀ masks₀ t₀ hits masks t = count - t
 
--- src/lib.rt:63:5
 loop-holds : tie.Need-loop-holds Inv-loop μ-loop
 loop-holds c =
     let start = c .before .before .before in
     (omega arith, refl, refl, group-none _ _ _ _ (start .pre .0) (omega arith), blank-named _ _ _ _ _ (start .pre .0))
 
--- src/lib.rt:64:17
 add-j : tie.Need-add-j Inv-loop μ-loop
 add-j c = omega (arith, c .before .before .before .before .before .pre .1 .room)
 
--- src/lib.rt:65:13
 line-of-requires : tie.Need-line-of-requires Inv-loop μ-loop
 line-of-requires c κs = omega (arith, c .before .before .before .before .before .pre .1 .room)
 
--- src/lib.rt:66:36
 mul-wide : tie.Need-mul-wide Inv-loop μ-loop
 mul-wide c = omega (arith, c .before .before .before .before .before .before .pre .1 .room)
 
--- src/lib.rt:66:36
 add-wide : tie.Need-add-wide Inv-loop μ-loop
 add-wide c = omega (arith, c .before .before .before .before .before .before .pre .1 .room)
 
--- src/lib.rt:66:33
 shared-slice-read-wide : tie.Need-shared-slice-read-wide Inv-loop μ-loop
 shared-slice-read-wide c = omega (arith, c .before .before .before .before .before .before .before .pre .1 .room)
 
--- src/lib.rt:66:13
 wide-requires : tie.Need-wide-requires Inv-loop μ-loop
 wide-requires c κs = tt
 
--- src/lib.rt:67:44
 mul-give : tie.Need-mul-give Inv-loop μ-loop
 mul-give c = omega (arith, c .before .before .before .before .before .before .before .before .before .before .pre .1 .room)
 
--- src/lib.rt:67:44
 add-give : tie.Need-add-give Inv-loop μ-loop
 add-give c = omega (arith, c .before .before .before .before .before .before .before .before .before .before .pre .1 .room)
 
--- src/lib.rt:67:41
 shared-slice-read-give : tie.Need-shared-slice-read-give Inv-loop μ-loop
 shared-slice-read-give c = omega (arith, c .before .before .before .before .before .before .before .before .before .before .before .pre .1 .room)
 
--- src/lib.rt:67:9
 give-requires : tie.Need-give-requires Inv-loop μ-loop
 unfolding faultAt
 give-requires c κs =
@@ -78,15 +67,12 @@ give-requires c κs =
       omega (arith, group .value (at .loop .t) taken),
     )
 
--- src/lib.rt:68:9
 add-t : tie.Need-add-t Inv-loop μ-loop
 add-t c = omega arith
 
--- src/lib.rt:63:5
 loop-less : tie.Need-loop-less Inv-loop μ-loop
 loop-less c = omega arith
 
--- src/lib.rt:63:5
 loop-again : tie.Need-loop-again Inv-loop μ-loop
 unfolding faultAt
 loop-again c =
@@ -102,15 +88,12 @@ loop-again c =
       named-more _ _ _ _ _ _ (at .loop .inv .4) _ (omega arith) (omega arith) line (gave .0),
     )
 
--- src/lib.rt:58:1
 same-length : tie.Need-same-length Inv-loop μ-loop
 same-length c = c .before .loop .inv .1
 
--- src/lib.rt:58:1
 same-length-2 : tie.Need-same-length-2 Inv-loop μ-loop
 same-length-2 c = c .before .loop .inv .2
 
--- src/lib.rt:58:1
 returns : tie.Need-returns Inv-loop μ-loop
 returns c = group-all _ _ _ _ _ _ (omega arith) (c .before .loop .inv .3) (c .before .loop .inv .4)
 

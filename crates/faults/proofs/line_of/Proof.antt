@@ -6,15 +6,12 @@ use Rattle.faults.proofs.line_of.Reads as reads
 use Rattle.faults.proofs.line_of.Lts as lts
 use Rattle.circuit.proofs.word_at.Reads as word-at-reads
 
--- src/lib.rt:52:26
 mul-word-at : tie.Need-mul-word-at
 mul-word-at c = search needs
 
--- src/lib.rt:52:5
 word-at-requires : tie.Need-word-at-requires
 word-at-requires c κs = search needs
 
--- src/lib.rt:48:1
 returns : tie.Need-returns
 unfolding faultAt
 returns c = c .word-at .ensures

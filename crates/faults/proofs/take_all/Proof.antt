@@ -8,27 +8,21 @@ use Rattle.faults.proofs.take_all.Reads as reads
 use Rattle.faults.proofs.take_all.Lts as lts
 use Rattle.unit.proofs.put_lanes.Reads as put-lanes-reads
 
--- src/lib.rt:28:5
 slice-write-hits : tie.Need-slice-write-hits
 slice-write-hits c = search needs
 
--- src/lib.rt:29:28
 add-put-lanes : tie.Need-add-put-lanes
 add-put-lanes c = search needs
 
--- src/lib.rt:29:5
 put-lanes-requires : tie.Need-put-lanes-requires
 put-lanes-requires c κs = search needs
 
--- src/lib.rt:24:1
 same-length : tie.Need-same-length
 same-length c = search needs
 
--- src/lib.rt:24:1
 same-length-2 : tie.Need-same-length-2
 same-length-2 c = search needs
 
--- src/lib.rt:24:1
 returns : tie.Need-returns
 returns c =
     let start = c .before .before .before .before .before .before in

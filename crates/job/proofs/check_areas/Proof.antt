@@ -10,47 +10,36 @@ use Rattle.job.proofs.check_areas.Lts as lts
 use Rattle.rules.proofs.Check.or.Reads as or-reads
 use Rattle.rules.proofs.Check.refuse.Reads as refuse-reads
 
--- src/lib.rt:144:16
 mul-need : tie.Need-mul-need
 mul-need c = search needs
 
--- src/lib.rt:144:45
 mul-need-2 : tie.Need-mul-need-2
 mul-need-2 c = search needs
 
--- src/lib.rt:144:63
 mul-need-3 : tie.Need-mul-need-3
 mul-need-3 c = search needs
 
--- src/lib.rt:144:45
 add-need : tie.Need-add-need
 add-need c = search needs
 
--- src/lib.rt:144:45
 add-need-2 : tie.Need-add-need-2
 add-need-2 c = search needs
 
--- src/lib.rt:144:32
 mul-need-4 : tie.Need-mul-need-4
 mul-need-4 c = let l = c .before .before .before .before .pre in omega (arith, area-limit (l .units) (l .outputs) (l .flops))
 
--- src/lib.rt:144:16
 add-need-3 : tie.Need-add-need-3
 add-need-3 c = let l = c .before .before .before .before .pre in omega (arith, area-limit (l .units) (l .outputs) (l .flops), l .lines)
 
--- src/lib.rt:145:5
 refuse-requires : tie.Need-refuse-requires
 refuse-requires c κs = search needs
 
--- src/lib.rt:145:42
 refuse-requires-2 : tie.Need-refuse-requires-2
 refuse-requires-2 c κs = search needs
 
--- src/lib.rt:145:5
 or-requires : tie.Need-or-requires
 or-requires c κs = search needs
 
--- src/lib.rt:140:1
 returns : tie.Need-returns
 unfolding row13 row14 workBytes
 returns c = λ cs ts j. c .or .ensures ∙ rw (c .before .before .refuse .ensures, c .before .refuse2 .ensures, ← (j .lines), ← (j .flops), ← (j .outputs), ← (j .units))

@@ -20,34 +20,27 @@ Inv-loop t b₀ b = (b ≤ length t) × (firstAnswer (λ b. refuse (ltb 1 (getD 
 abbrev μ-loop : tie.MeasureT-loop
 μ-loop t b₀ b = length t - b
 
--- src/lib.rt:31:5
 loop-holds : tie.Need-loop-holds Inv-loop μ-loop
 unfolding firstAnswer
 loop-holds c = (omega arith, refl)
 
--- src/lib.rt:32:16
 shared-slice-read-if1 : tie.Need-shared-slice-read-if1 Inv-loop μ-loop
 shared-slice-read-if1 c = omega (arith, c .before .loop-test .taken)
 
--- src/lib.rt:33:13
 returns : tie.Need-returns Inv-loop μ-loop
 unfolding refusalOf refuse row8
 returns c = let turn = c .before .before in sym (firstAnswer-stop _ _ _ _ (turn .before .loop .inv .1) (rw (lt-ltb _ _ (c .if1 .taken))) (turn .loop-test .taken))
 
--- src/lib.rt:35:9
 add-b : tie.Need-add-b Inv-loop μ-loop
 add-b c = omega arith
 
--- src/lib.rt:31:5
 loop-less : tie.Need-loop-less Inv-loop μ-loop
 loop-less c = omega (arith, c .before .before .loop-test .taken)
 
--- src/lib.rt:31:5
 loop-again : tie.Need-loop-again Inv-loop μ-loop
 unfolding refuse
 loop-again c = (omega (arith, c .before .before .loop-test .taken), firstAnswer-turn _ _ (c .before .before .before .loop .inv .1) (rw (le-ltb _ _ (c .if1 .left))))
 
--- src/lib.rt:27:1
 returns-2 : tie.Need-returns-2 Inv-loop μ-loop
 unfolding refusalOf row8
 returns-2 c =

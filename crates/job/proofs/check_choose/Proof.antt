@@ -14,15 +14,12 @@ use Rattle.job.proofs.check_areas.Reads as check-areas-reads
 use Rattle.job.proofs.check_inputs.Reads as check-inputs-reads
 use Rattle.job.proofs.job_of.Reads as job-of-reads
 
--- src/lib.rt:200:9
 check-inputs-requires : tie.Need-check-inputs-requires
 check-inputs-requires c κs = search needs
 
--- src/lib.rt:201:28
 enum-known-inputs : tie.Need-enum-known-inputs
 enum-known-inputs c = search needs
 
--- src/lib.rt:202:9
 returns : tie.Need-returns
 unfolding refusalOf chooseRefusal
 returns c =
@@ -31,7 +28,6 @@ returns c =
 enum-told : tie.Need-enum-told
 enum-told c = search needs
 
--- src/lib.rt:205:9
 returns-2 : tie.Need-returns-2
 unfolding refusalOf chooseRefusal row12 refuse
 returns-2 c =
@@ -39,7 +35,6 @@ returns-2 c =
     let passed : told .before .before .check-inputs .result ≡ Passed = told .enum-told .given .1 in
     sym (inputs-first _ _ _ _ _ _ ∙ else-skips _ _ (sym (told .before .before .check-inputs .ensures) ∙ ap refusalOf passed) ∙ else-found _ _ _ (rw (lt-ltb _ _ (c .if1 .taken))))
 
--- src/lib.rt:207:17
 job-of-requires : tie.Need-job-of-requires
 unfolding refusalOf
 job-of-requires c κs =
@@ -47,15 +42,12 @@ job-of-requires c κs =
     let inputs = accepted _ _ _ _ _ (sym (c .before .before .before .check-inputs .ensures) ∙ ap refusalOf passed) in
     (inputs .circuit, inputs .test)
 
--- src/lib.rt:207:37
 mul-check-areas : tie.Need-mul-check-areas
 mul-check-areas c = search needs
 
--- src/lib.rt:207:5
 check-areas-requires : tie.Need-check-areas-requires
 check-areas-requires c κs = search needs
 
--- src/lib.rt:190:1
 returns-3 : tie.Need-returns-3
 unfolding refusalOf chooseRefusal row12 refuse
 returns-3 c =

@@ -9,19 +9,15 @@ use Rattle.job.proofs.check_count.Lts as lts
 use Rattle.rules.proofs.Check.refuse.Reads as refuse-reads
 use Rattle.rules.proofs.either.Reads as either-reads
 
--- src/lib.rt:56:9
 either-requires : tie.Need-either-requires
 either-requires c κs = search needs
 
--- src/lib.rt:57:19
 either-requires-2 : tie.Need-either-requires-2
 either-requires-2 c κs = search needs
 
--- src/lib.rt:57:5
 refuse-requires : tie.Need-refuse-requires
 refuse-requires c κs = search needs
 
--- src/lib.rt:53:1
 returns : tie.Need-returns
 unfolding row9 faultCount
 returns c = λ fs e. c .refuse .ensures ∙ rw (c .before .either2 .ensures, c .before .before .either .ensures, e)

@@ -20,18 +20,15 @@ Inv-loop c lines fs count j₀ j = (j ≤ count) × (firstAnswer (λ j. refuse (
 abbrev μ-loop : tie.MeasureT-loop
 μ-loop c lines fs count j₀ j = count - j
 
--- src/lib.rt:77:5
 loop-holds : tie.Need-loop-holds Inv-loop μ-loop
 unfolding firstAnswer
 loop-holds c = (omega arith, refl)
 
--- src/lib.rt:78:13
 fault-fits-requires : tie.Need-fault-fits-requires Inv-loop μ-loop
 fault-fits-requires c κs =
     let start = c .before .before .before .before in
     (start .pre .0, start .pre .1, omega (arith, start .pre .2, c .loop-test .taken))
 
--- src/lib.rt:79:13
 returns : tie.Need-returns Inv-loop μ-loop
 unfolding refusalOf refuse row10
 returns c =
@@ -39,20 +36,16 @@ returns c =
     let start = turn .before .before .before .before in
     rw (← (start .pre .3)) (sym (firstAnswer-stop _ _ _ _ (turn .before .loop .inv .1) (rw (← (c .before .fault-fits .ensures), c .if1 .taken)) (turn .loop-test .taken)))
 
--- src/lib.rt:81:9
 add-j : tie.Need-add-j Inv-loop μ-loop
 add-j c = omega (arith, c .before .before .loop-test .taken)
 
--- src/lib.rt:77:5
 loop-less : tie.Need-loop-less Inv-loop μ-loop
 loop-less c = omega (arith, c .before .before .loop-test .taken)
 
--- src/lib.rt:77:5
 loop-again : tie.Need-loop-again Inv-loop μ-loop
 unfolding refuse
 loop-again c = (omega (arith, c .before .before .loop-test .taken), firstAnswer-turn _ _ (c .before .before .before .loop .inv .1) (rw (← (c .before .fault-fits .ensures), c .if1 .left)))
 
--- src/lib.rt:72:1
 returns-2 : tie.Need-returns-2 Inv-loop μ-loop
 unfolding refusalOf row10
 returns-2 c =

@@ -12,15 +12,12 @@ use Rattle.job.proofs.check_faults.Lts as lts
 use Rattle.job.proofs.check_count.Reads as check-count-reads
 use Rattle.job.proofs.check_each.Reads as check-each-reads
 
--- src/lib.rt:92:9
 check-count-requires : tie.Need-check-count-requires
 check-count-requires c κs = search needs
 
--- src/lib.rt:93:28
 enum-known-count : tie.Need-enum-known-count
 enum-known-count c = search needs
 
--- src/lib.rt:94:9
 returns : tie.Need-returns
 unfolding refusalOf
 returns c = sym (else-found _ _ _ (sym (c .before .before .before .check-count .ensures _ refl) ∙ ap refusalOf (c .before .count .given .1)))
@@ -28,12 +25,10 @@ returns c = sym (else-found _ _ _ (sym (c .before .before .before .check-count .
 enum-told : tie.Need-enum-told
 enum-told c = search needs
 
--- src/lib.rt:96:5
 check-each-requires : tie.Need-check-each-requires
 unfolding faultCount
 check-each-requires c κs = (c .before .before .before .before .before .pre .0, c .before .before .before .before .before .pre .1, omega arith, refl)
 
--- src/lib.rt:87:1
 returns-2 : tie.Need-returns-2
 unfolding refusalOf
 returns-2 c =

@@ -18,15 +18,12 @@ use Rattle.job.proofs.job_of.Reads as job-of-reads
 use Rattle.rules.proofs.Check.or.Reads as or-reads
 use Rattle.rules.proofs.Check.refuse.Reads as refuse-reads
 
--- src/lib.rt:180:9
 check-inputs-requires : tie.Need-check-inputs-requires
 check-inputs-requires c κs = search needs
 
--- src/lib.rt:181:28
 enum-known-inputs : tie.Need-enum-known-inputs
 enum-known-inputs c = search needs
 
--- src/lib.rt:182:9
 returns : tie.Need-returns
 unfolding refusalOf gradeRefusal
 returns c = λ p e.
@@ -35,14 +32,12 @@ returns c = λ p e.
 enum-told : tie.Need-enum-told
 enum-told c = search needs
 
--- src/lib.rt:184:16
 mul-size : tie.Need-mul-size
 unfolding refusalOf faultCount
 mul-size c =
     let passed : c .before .before .check-inputs .result ≡ Passed = c .enum-told .given .1 in
     omega (arith, accepted _ _ _ _ _ (sym (c .before .before .check-inputs .ensures) ∙ ap refusalOf passed) .few)
 
--- src/lib.rt:185:29
 job-of-requires : tie.Need-job-of-requires
 unfolding refusalOf
 job-of-requires c κs =
@@ -50,27 +45,21 @@ job-of-requires c κs =
     let inputs = accepted _ _ _ _ _ (sym (c .before .before .check-inputs .ensures) ∙ ap refusalOf passed) in
     (inputs .circuit, inputs .test)
 
--- src/lib.rt:185:9
 check-areas-requires : tie.Need-check-areas-requires
 check-areas-requires c κs = search needs
 
--- src/lib.rt:186:5
 check-plan-requires : tie.Need-check-plan-requires
 check-plan-requires c κs = search needs
 
--- src/lib.rt:186:25
 refuse-requires : tie.Need-refuse-requires
 refuse-requires c κs = search needs
 
--- src/lib.rt:186:25
 or-requires : tie.Need-or-requires
 or-requires c κs = search needs
 
--- src/lib.rt:186:5
 or-requires-2 : tie.Need-or-requires-2
 or-requires-2 c κs = search needs
 
--- src/lib.rt:169:1
 returns-2 : tie.Need-returns-2
 unfolding refusalOf gradeRefusal row12 faultCount
 returns-2 c = λ p e.

@@ -9,27 +9,21 @@ use Rattle.rules.proofs.Check.or.Reads as or-reads
 use Rattle.rules.proofs.Check.refuse.Reads as refuse-reads
 use Rattle.rules.proofs.either.Reads as either-reads
 
--- src/lib.rt:214:9
 either-requires : tie.Need-either-requires
 either-requires c κs = search needs
 
--- src/lib.rt:215:16
 mul-size : tie.Need-mul-size
 mul-size c = search needs
 
--- src/lib.rt:216:5
 refuse-requires : tie.Need-refuse-requires
 refuse-requires c κs = search needs
 
--- src/lib.rt:216:36
 refuse-requires-2 : tie.Need-refuse-requires-2
 refuse-requires-2 c κs = search needs
 
--- src/lib.rt:216:5
 or-requires : tie.Need-or-requires
 or-requires c κs = search needs
 
--- src/lib.rt:211:1
 returns : tie.Need-returns
 unfolding groupRefusal row14 row15
 returns c = λ vs e. c .or .ensures ∙ rw (c .before .before .refuse .ensures, c .before .refuse2 .ensures, c .before .before .before .either .ensures, e)

@@ -17,15 +17,12 @@ use Rattle.job.proofs.check_faults.Reads as check-faults-reads
 use Rattle.job.proofs.check_test.Reads as check-test-reads
 use Rattle.rules.proofs.check_circuit.Reads as check-circuit-reads
 
--- src/lib.rt:104:9
 check-circuit-requires : tie.Need-check-circuit-requires
 check-circuit-requires c κs = search needs
 
--- src/lib.rt:105:28
 enum-known-circuit : tie.Need-enum-known-circuit
 enum-known-circuit c = search needs
 
--- src/lib.rt:106:9
 returns : tie.Need-returns
 unfolding refusalOf inputRows
 returns c = sym (else-found _ _ _ (sym (c .before .before .before .check-circuit .ensures) ∙ ap refusalOf (c .before .circuit .given .1)))
@@ -33,12 +30,10 @@ returns c = sym (else-found _ _ _ (sym (c .before .before .before .check-circuit
 enum-told : tie.Need-enum-told
 enum-told c = search needs
 
--- src/lib.rt:109:9
 sizes-of-requires : tie.Need-sizes-of-requires
 unfolding N
 sizes-of-requires c κs = (omega arith, refl)
 
--- src/lib.rt:110:9
 check-test-requires : tie.Need-check-test-requires
 unfolding refusalOf
 check-test-requires c κs =
@@ -47,11 +42,9 @@ check-test-requires c κs =
     let valid = validCircuit _ (sym (told .before .before .check-circuit .ensures) ∙ ap refusalOf passed) in
     omega (arith, valid .someInput, c .sizes-of .ensures .inputs)
 
--- src/lib.rt:111:28
 enum-known-test : tie.Need-enum-known-test
 enum-known-test c = search needs
 
--- src/lib.rt:112:9
 returns-2 : tie.Need-returns-2
 unfolding refusalOf inputRows
 returns-2 c =
@@ -64,12 +57,10 @@ returns-2 c =
 enum-told-2 : tie.Need-enum-told-2
 enum-told-2 c = search needs
 
--- src/lib.rt:114:5
 check-faults-requires : tie.Need-check-faults-requires
 unfolding N
 check-faults-requires c κs = (omega arith, refl)
 
--- src/lib.rt:101:1
 returns-3 : tie.Need-returns-3
 unfolding refusalOf inputRows
 returns-3 c =

@@ -9,15 +9,12 @@ use Rattle.job.proofs.check_plan.Lts as lts
 use Rattle.rules.proofs.Check.refuse.Reads as refuse-reads
 use Rattle.rules.proofs.either.Reads as either-reads
 
--- src/lib.rt:165:19
 either-requires : tie.Need-either-requires
 either-requires c κs = search needs
 
--- src/lib.rt:165:5
 refuse-requires : tie.Need-refuse-requires
 refuse-requires c κs = search needs
 
--- src/lib.rt:162:1
 returns : tie.Need-returns
 unfolding row11 planCount
 returns c = λ p e. c .refuse .ensures ∙ rw (c .before .either .ensures, e)

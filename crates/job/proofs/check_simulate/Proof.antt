@@ -15,15 +15,12 @@ use Rattle.job.proofs.check_areas.Reads as check-areas-reads
 use Rattle.job.proofs.check_inputs.Reads as check-inputs-reads
 use Rattle.job.proofs.job_of.Reads as job-of-reads
 
--- src/lib.rt:152:9
 check-inputs-requires : tie.Need-check-inputs-requires
 check-inputs-requires c κs = search needs
 
--- src/lib.rt:153:28
 enum-known-inputs : tie.Need-enum-known-inputs
 enum-known-inputs c = search needs
 
--- src/lib.rt:154:9
 returns : tie.Need-returns
 unfolding refusalOf simulateRefusal
 returns c =
@@ -32,7 +29,6 @@ returns c =
 enum-told : tie.Need-enum-told
 enum-told c = search needs
 
--- src/lib.rt:156:9
 job-of-requires : tie.Need-job-of-requires
 unfolding refusalOf
 job-of-requires c κs =
@@ -40,15 +36,12 @@ job-of-requires c κs =
     let inputs = accepted _ _ _ _ _ (sym (c .before .before .check-inputs .ensures) ∙ ap refusalOf passed) in
     (inputs .circuit, inputs .test)
 
--- src/lib.rt:157:16
 mul-size : tie.Need-mul-size
 mul-size c = let j = c .before .job-of .ensures .1 in omega (arith, mul-le-mul (j .units) (j .outputs))
 
--- src/lib.rt:158:5
 check-areas-requires : tie.Need-check-areas-requires
 check-areas-requires c κs = c .before .job-of .ensures .1
 
--- src/lib.rt:149:1
 returns-2 : tie.Need-returns-2
 unfolding refusalOf simulateRefusal
 returns-2 c =

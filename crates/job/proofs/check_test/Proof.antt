@@ -10,15 +10,12 @@ use Rattle.job.proofs.check_test.Lts as lts
 use Rattle.job.proofs.check_bytes.Reads as check-bytes-reads
 use Rattle.job.proofs.check_units.Reads as check-units-reads
 
--- src/lib.rt:45:9
 check-units-requires : tie.Need-check-units-requires
 check-units-requires c κs = search needs
 
--- src/lib.rt:46:28
 enum-known-units : tie.Need-enum-known-units
 enum-known-units c = search needs
 
--- src/lib.rt:47:9
 returns : tie.Need-returns
 unfolding refusalOf
 returns c = λ cs i. sym (else-found _ _ _ (sym (c .before .before .before .check-units .ensures cs _ i refl) ∙ ap refusalOf (c .before .units .given .1)))
@@ -26,11 +23,9 @@ returns c = λ cs i. sym (else-found _ _ _ (sym (c .before .before .before .chec
 enum-told : tie.Need-enum-told
 enum-told c = search needs
 
--- src/lib.rt:49:5
 check-bytes-requires : tie.Need-check-bytes-requires
 check-bytes-requires c κs = search needs
 
--- src/lib.rt:41:1
 returns-2 : tie.Need-returns-2
 unfolding refusalOf
 returns-2 c = λ cs i.

@@ -9,27 +9,21 @@ use Rattle.job.proofs.check_units.Lts as lts
 use Rattle.rules.proofs.Check.refuse.Reads as refuse-reads
 use Rattle.rules.proofs.either.Reads as either-reads
 
--- src/lib.rt:22:43
 rem-either : tie.Need-rem-either
 rem-either c = search needs
 
--- src/lib.rt:22:9
 either-requires : tie.Need-either-requires
 either-requires c κs = search needs
 
--- src/lib.rt:23:48
 div-either : tie.Need-div-either
 div-either c = search needs
 
--- src/lib.rt:23:19
 either-requires-2 : tie.Need-either-requires-2
 either-requires-2 c κs = search needs
 
--- src/lib.rt:23:5
 refuse-requires : tie.Need-refuse-requires
 refuse-requires c κs = search needs
 
--- src/lib.rt:18:1
 returns : tie.Need-returns
 unfolding row7 L
 returns c = λ cs ts i e. c .refuse .ensures ∙ rw (c .before .either2 .ensures, c .before .before .either .ensures, e, i)

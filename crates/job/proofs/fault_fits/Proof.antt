@@ -10,19 +10,15 @@ use Rattle.circuit.proofs.fault_of.Reads as fault-of-reads
 use Rattle.circuit.proofs.pins_of.Reads as pins-of-reads
 use Rattle.rules.proofs.both.Reads as both-reads
 
--- src/lib.rt:64:9
 fault-of-requires : tie.Need-fault-of-requires
 fault-of-requires c κs = search needs
 
--- src/lib.rt:66:37
 pins-of-requires : tie.Need-pins-of-requires
 pins-of-requires c κs = search needs
 
--- src/lib.rt:66:9
 both-requires : tie.Need-both-requires
 both-requires c κs = search needs
 
--- src/lib.rt:66:9
 returns : tie.Need-returns
 unfolding faultFits
 returns c =
@@ -30,7 +26,6 @@ returns c =
     let f = told .before .fault-of .ensures in
     c .both .ensures ∙ rw (c .before .before .before .pins-of .ensures .0, ← (f .line), ← (f .pin), ← (f .value), ← (told .before .before .before .before .pre .1), lt-ltb _ _ (c .before .before .before .before .if1 .taken))
 
--- src/lib.rt:60:1
 returns-2 : tie.Need-returns-2
 unfolding faultFits
 returns-2 c =

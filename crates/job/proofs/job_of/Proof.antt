@@ -8,16 +8,13 @@ use Rattle.job.proofs.job_of.Reads as reads
 use Rattle.job.proofs.job_of.Lts as lts
 use Rattle.circuit.proofs.sizes_of.Reads as sizes-of-reads
 
--- src/lib.rt:129:9
 sizes-of-requires : tie.Need-sizes-of-requires
 unfolding N
 sizes-of-requires c κs = (omega arith, refl)
 
--- src/lib.rt:135:16
 div-t5 : tie.Need-div-t5
 div-t5 c = search needs
 
--- src/lib.rt:125:1
 returns : tie.Need-returns
 unfolding L
 returns c =

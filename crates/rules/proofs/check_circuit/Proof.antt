@@ -16,15 +16,12 @@ use Rattle.rules.proofs.check_records.Reads as check-records-reads
 use Rattle.rules.proofs.check_sizes.Reads as check-sizes-reads
 use Rattle.circuit.proofs.sizes_of.Reads as sizes-of-reads
 
--- src/lib.rt:252:9
 check-length-requires : tie.Need-check-length-requires
 check-length-requires c κs = tt
 
--- src/lib.rt:253:28
 enum-known-length : tie.Need-enum-known-length
 enum-known-length c = search needs
 
--- src/lib.rt:254:9
 returns : tie.Need-returns
 unfolding refusalOf circuitRows
 returns c =
@@ -33,25 +30,20 @@ returns c =
 enum-told : tie.Need-enum-told
 enum-told c = search needs
 
--- src/lib.rt:257:5
 check-records-requires : tie.Need-check-records-requires
 unfolding N
 check-records-requires c κs = (omega arith, refl)
 
--- src/lib.rt:257:44
 sizes-of-requires : tie.Need-sizes-of-requires
 unfolding N
 sizes-of-requires c κs = (omega arith, refl)
 
--- src/lib.rt:257:32
 check-sizes-requires : tie.Need-check-sizes-requires
 check-sizes-requires c κs = tt
 
--- src/lib.rt:257:5
 or-requires : tie.Need-or-requires
 or-requires c κs = tt
 
--- src/lib.rt:248:1
 returns-2 : tie.Need-returns-2
 unfolding refusalOf circuitRows N
 returns-2 c =

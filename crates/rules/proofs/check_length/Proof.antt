@@ -8,19 +8,15 @@ use Rattle.rules.proofs.check_length.Lts as lts
 use Rattle.rules.proofs.Check.refuse.Reads as refuse-reads
 use Rattle.rules.proofs.either.Reads as either-reads
 
--- src/lib.rt:244:26
 either-requires : tie.Need-either-requires
 either-requires c κs = search needs
 
--- src/lib.rt:244:19
 either-requires-2 : tie.Need-either-requires-2
 either-requires-2 c κs = search needs
 
--- src/lib.rt:244:5
 refuse-requires : tie.Need-refuse-requires
 refuse-requires c κs = search needs
 
--- src/lib.rt:241:1
 returns : tie.Need-returns
 unfolding row1
 returns c = λ cs e. c .refuse .ensures ∙ rw (c .before .either2 .ensures, c .before .before .either .ensures, e)

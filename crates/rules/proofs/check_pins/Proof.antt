@@ -15,50 +15,39 @@ use Rattle.rules.proofs.misnames_from.Reads as misnames-from-reads
 use Rattle.circuit.proofs.spare_of.Reads as spare-of-reads
 use Rattle.rules.proofs.unused_named.Reads as unused-named-reads
 
--- src/lib.rt:164:35
 mark-of-requires : tie.Need-mark-of-requires
 mark-of-requires c κs = search needs
 
--- src/lib.rt:164:54
 spare-of-requires : tie.Need-spare-of-requires
 spare-of-requires c κs = search needs
 
--- src/lib.rt:164:24
 either-requires : tie.Need-either-requires
 either-requires c κs = search needs
 
--- src/lib.rt:164:71
 unused-named-requires : tie.Need-unused-named-requires
 unused-named-requires c κs = search needs
 
--- src/lib.rt:164:9
 either-requires-2 : tie.Need-either-requires-2
 either-requires-2 c κs = search needs
 
--- src/lib.rt:165:43
 limit-of-requires : tie.Need-limit-of-requires
 limit-of-requires c κs = search needs
 
--- src/lib.rt:165:9
 misnames-from-requires : tie.Need-misnames-from-requires
 unfolding isGate
 misnames-from-requires c κs =
     let pre = c .before .before .before .before .before .before .before .pre in
     (pre .0, pre .3, pre .4, c .limit-of .ensures ∙ rw (pre .1, pre .2))
 
--- src/lib.rt:166:5
 refuse-requires : tie.Need-refuse-requires
 refuse-requires c κs = search needs
 
--- src/lib.rt:166:35
 refuse-requires-2 : tie.Need-refuse-requires-2
 refuse-requires-2 c κs = search needs
 
--- src/lib.rt:166:5
 or-requires : tie.Need-or-requires
 or-requires c κs = search needs
 
--- src/lib.rt:160:1
 returns : tie.Need-returns
 unfolding strayBytes
 returns c =

@@ -15,31 +15,25 @@ use Rattle.circuit.proofs.kind_of.Reads as kind-of-reads
 use Rattle.rules.proofs.pins_fit.Reads as pins-fit-reads
 use Rattle.circuit.proofs.pins_of.Reads as pins-of-reads
 
--- src/lib.rt:134:9
 kind-of-requires : tie.Need-kind-of-requires
 kind-of-requires c κs = search needs
 
--- src/lib.rt:135:9
 pins-of-requires : tie.Need-pins-of-requires
 pins-of-requires c κs = search needs
 
--- src/lib.rt:137:9
 returns : tie.Need-returns
 unfolding refusalOf rows2to5 refuse _else_
 returns c = rw (← c .before .before .kind-of .ensures, lt-ltb _ _ (c .if1 .taken))
 
--- src/lib.rt:139:9
 pins-fit-requires : tie.Need-pins-fit-requires
 pins-fit-requires c κs = search needs
 
--- src/lib.rt:140:9
 returns-2 : tie.Need-returns-2
 unfolding refusalOf rows2to5 refuse _else_
 returns-2 c =
     let e = c .before .pins-fit .ensures in
     rw (← c .before .before .before .before .kind-of .ensures, ← c .before .before .before .pins-of .ensures .0, le-ltb _ _ (c .before .before .if1 .left), ← e, c .if2 .taken)
 
--- src/lib.rt:142:5
 check-pins-requires : tie.Need-check-pins-requires
 check-pins-requires c κs =
     let start = c .before .before .before .before .before .before in
@@ -51,7 +45,6 @@ check-pins-requires c κs =
       few-pins _ _ (sym (c .before .pins-fit .ensures) ∙ fit),
     )
 
--- src/lib.rt:130:1
 returns-3 : tie.Need-returns-3
 unfolding rows2to5 refuse _else_
 returns-3 c =

@@ -20,20 +20,16 @@ Inv-loop c lines n₀ n = (n ≤ lines) × (firstAnswer (λ n. rows2to5 c n) n �
 abbrev μ-loop : tie.MeasureT-loop
 μ-loop c lines n₀ n = lines - n
 
--- src/lib.rt:151:5
 loop-holds : tie.Need-loop-holds Inv-loop μ-loop
 unfolding firstAnswer
 loop-holds c = (omega arith, refl)
 
--- src/lib.rt:152:13
 check-record-requires : tie.Need-check-record-requires Inv-loop μ-loop
 check-record-requires c κs = (omega arith, c .before .before .before .pre .1)
 
--- src/lib.rt:153:32
 enum-known-check : tie.Need-enum-known-check Inv-loop μ-loop
 enum-known-check c = search needs
 
--- src/lib.rt:154:13
 returns : tie.Need-returns Inv-loop μ-loop
 unfolding refusalOf
 returns c =
@@ -44,15 +40,12 @@ returns c =
 enum-told : tie.Need-enum-told Inv-loop μ-loop
 enum-told c = search needs
 
--- src/lib.rt:156:9
 add-n : tie.Need-add-n Inv-loop μ-loop
 add-n c = omega arith
 
--- src/lib.rt:151:5
 loop-less : tie.Need-loop-less Inv-loop μ-loop
 loop-less c = omega arith
 
--- src/lib.rt:151:5
 loop-again : tie.Need-loop-again Inv-loop μ-loop
 unfolding refusalOf
 loop-again c =
@@ -60,7 +53,6 @@ loop-again c =
     let passed : c .before .before .check-record .result ≡ Passed = c .enum-told .given .1 in
     (omega arith, firstAnswer-turn _ _ (turn .before .loop .inv .1) (sym (c .before .before .check-record .ensures) ∙ ap refusalOf passed))
 
--- src/lib.rt:146:1
 returns-2 : tie.Need-returns-2 Inv-loop μ-loop
 unfolding refusalOf
 returns-2 c =

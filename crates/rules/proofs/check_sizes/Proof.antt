@@ -8,27 +8,21 @@ use Rattle.rules.proofs.check_sizes.Lts as lts
 use Rattle.rules.proofs.Check.refuse.Reads as refuse-reads
 use Rattle.rules.proofs.either.Reads as either-reads
 
--- src/lib.rt:235:9
 either-requires : tie.Need-either-requires
 either-requires c κs = search needs
 
--- src/lib.rt:236:30
 either-requires-2 : tie.Need-either-requires-2
 either-requires-2 c κs = search needs
 
--- src/lib.rt:236:23
 either-requires-3 : tie.Need-either-requires-3
 either-requires-3 c κs = search needs
 
--- src/lib.rt:236:9
 either-requires-4 : tie.Need-either-requires-4
 either-requires-4 c κs = search needs
 
--- src/lib.rt:237:5
 refuse-requires : tie.Need-refuse-requires
 refuse-requires c κs = search needs
 
--- src/lib.rt:232:1
 returns : tie.Need-returns
 unfolding row6
 returns c = λ cs s. c .refuse .ensures ∙ rw (c .before .either4 .ensures, c .before .before .before .either3 .ensures, c .before .before .before .before .before .either2 .ensures, c .before .before .before .before .before .before .before .either .ensures, ← s .inputs, ← s .flops, ← s .outputs)

@@ -4,11 +4,9 @@ use Rattle.rules.proofs.limit_of.Tie as tie
 use Rattle.rules.proofs.limit_of.Reads as reads
 use Rattle.rules.proofs.limit_of.Lts as lts
 
--- src/lib.rt:153:1
 returns : tie.Need-returns
 returns c = rw (le-leb _ _ (c .if1 .taken))
 
--- src/lib.rt:153:1
 returns-2 : tie.Need-returns-2
 returns-2 c = rw (lt-leb _ _ (c .if1 .left))
 

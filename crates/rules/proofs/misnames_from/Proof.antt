@@ -18,20 +18,16 @@ Inv-loop c n pins limit i₀ i = (i ≤ pins) × (anyBelow (λ i. misnamed c n i
 abbrev μ-loop : tie.MeasureT-loop
 μ-loop c n pins limit i₀ i = pins - i
 
--- src/lib.rt:144:5
 loop-holds : tie.Need-loop-holds Inv-loop μ-loop
 unfolding anyBelow
 loop-holds c = (omega arith, refl)
 
--- src/lib.rt:145:34
 add-pin-of : tie.Need-add-pin-of Inv-loop μ-loop
 add-pin-of c = omega arith
 
--- src/lib.rt:145:21
 pin-of-requires : tie.Need-pin-of-requires Inv-loop μ-loop
 pin-of-requires c κs = (omega arith, omega arith, omega arith)
 
--- src/lib.rt:146:13
 returns : tie.Need-returns Inv-loop μ-loop
 unfolding misnames misnamed
 returns c =
@@ -40,15 +36,12 @@ returns c =
     rw (← start .pre .1)
     (sym (anyBelow-stop _ _ _ (rw (← c .before .pin-of .ensures .0, ← start .pre .3) (le-leb _ _ (c .if1 .taken))) (turn .loop-test .taken)))
 
--- src/lib.rt:148:9
 add-i : tie.Need-add-i Inv-loop μ-loop
 add-i c = omega arith
 
--- src/lib.rt:144:5
 loop-less : tie.Need-loop-less Inv-loop μ-loop
 loop-less c = omega arith
 
--- src/lib.rt:144:5
 loop-again : tie.Need-loop-again Inv-loop μ-loop
 unfolding misnamed
 loop-again c =
@@ -59,7 +52,6 @@ loop-again c =
           (rw (← c .before .pin-of .ensures .0, ← start .pre .3) (lt-leb _ _ (c .if1 .left))),
     )
 
--- src/lib.rt:139:1
 returns-2 : tie.Need-returns-2 Inv-loop μ-loop
 unfolding misnames
 returns-2 c =

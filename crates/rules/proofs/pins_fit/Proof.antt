@@ -9,23 +9,19 @@ use Rattle.rules.proofs.pins_fit.Reads as reads
 use Rattle.rules.proofs.pins_fit.Lts as lts
 use Rattle.rules.proofs.both.Reads as both-reads
 
--- src/lib.rt:119:14
 both-requires : tie.Need-both-requires
 both-requires c κs = search needs
 
--- src/lib.rt:113:1
 returns : tie.Need-returns
 unfolding pinsFit
 returns c = simp (eq-eqb _ _ (c .match .keys1))
 
--- src/lib.rt:113:1
 returns-2 : tie.Need-returns-2
 unfolding pinsFit
 returns-2 c =
     let k = c .before .before .args .k in
     simp (ne-eqb k 0 (c .before .match .rest .1), le-leb k 3 (omega arith))
 
--- src/lib.rt:113:1
 returns-3 : tie.Need-returns-3
 unfolding pinsFit
 returns-3 c =

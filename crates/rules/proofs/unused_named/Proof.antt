@@ -18,24 +18,19 @@ Inv-loop c n pins i₀ i = (i ≤ 4) × (anyBelow (λ i. unusedNamed c n i) i �
 abbrev μ-loop : tie.MeasureT-loop
 μ-loop c n pins i₀ i = 4 - i
 
--- src/lib.rt:129:5
 loop-holds : tie.Need-loop-holds Inv-loop μ-loop
 unfolding anyBelow
 loop-holds c = (omega arith, refl)
 
--- src/lib.rt:130:45
 add-pin-of : tie.Need-add-pin-of Inv-loop μ-loop
 add-pin-of c = omega arith
 
--- src/lib.rt:130:32
 pin-of-requires : tie.Need-pin-of-requires Inv-loop μ-loop
 pin-of-requires c κs = (omega arith, omega arith, omega arith)
 
--- src/lib.rt:130:12
 both-requires : tie.Need-both-requires Inv-loop μ-loop
 both-requires c κs = tt
 
--- src/lib.rt:131:13
 returns : tie.Need-returns Inv-loop μ-loop
 unfolding unusedNamed
 returns c =
@@ -44,15 +39,12 @@ returns c =
     (rw (← c .before .before .pin-of .ensures .0, ← turn .before .before .before .pre .1) (sym (c .before .both .ensures) ∙ c .if1 .taken))
     (turn .loop-test .taken))
 
--- src/lib.rt:133:9
 add-i : tie.Need-add-i Inv-loop μ-loop
 add-i c = omega arith
 
--- src/lib.rt:129:5
 loop-less : tie.Need-loop-less Inv-loop μ-loop
 loop-less c = omega arith
 
--- src/lib.rt:129:5
 loop-again : tie.Need-loop-again Inv-loop μ-loop
 unfolding unusedNamed
 loop-again c =
@@ -62,7 +54,6 @@ loop-again c =
           (rw (← c .before .before .pin-of .ensures .0, ← turn .before .before .before .pre .1) (sym (c .before .both .ensures) ∙ c .if1 .left)),
     )
 
--- src/lib.rt:124:1
 returns-2 : tie.Need-returns-2 Inv-loop μ-loop
 returns-2 c =
     let end : 4 ≡ c .before .loop .i = omega arith in

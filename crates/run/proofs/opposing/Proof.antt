@@ -28,39 +28,30 @@ at c =
     let start = c .before .before .before .before .before .before in
     output-at _ _ (start .pre .1) _ (omega (arith, c .loop-test .taken, start .pre .2))
 
--- src/lib.rt:157:5
 loop-holds : tie.Need-loop-holds Inv-loop μ-loop
 loop-holds c = (omega arith, λ lane f vs l e. opposing-none lane _ (outputs (c .before .before .before .before .args .c .now) f vs))
 
--- src/lib.rt:158:39
 mul-lanes-at : tie.Need-mul-lanes-at Inv-loop μ-loop
 mul-lanes-at c = let start = c .before .before .before .before .before .before in omega (arith, start .pre .0 .outputs, start .pre .2)
 
--- src/lib.rt:158:39
 shared-slice-read-lanes-at : tie.Need-shared-slice-read-lanes-at Inv-loop μ-loop
 shared-slice-read-lanes-at c = at (c .before) .place
 
--- src/lib.rt:158:13
 lanes-at-requires : tie.Need-lanes-at-requires Inv-loop μ-loop
 lanes-at-requires c κs = omega (arith, at (c .before) .below, c .before .before .before .before .before .before .before .pre .3)
 
--- src/lib.rt:159:36
 shared-slice-read-opposing : tie.Need-shared-slice-read-opposing Inv-loop μ-loop
 shared-slice-read-opposing c = omega (arith, c .before .before .before .loop-test .taken, c .before .before .before .before .before .before .before .before .before .pre .4)
 
--- src/lib.rt:159:25
 opposing-requires : tie.Need-opposing-requires Inv-loop μ-loop
 opposing-requires c κs = tt
 
--- src/lib.rt:160:9
 add-o : tie.Need-add-o Inv-loop μ-loop
 add-o c = omega (arith, c .before .before .before .before .loop-test .taken)
 
--- src/lib.rt:157:5
 loop-less : tie.Need-loop-less Inv-loop μ-loop
 loop-less c = omega (arith, c .before .before .before .before .loop-test .taken)
 
--- src/lib.rt:157:5
 loop-again : tie.Need-loop-again Inv-loop μ-loop
 loop-again c =
     let turn = c .before .before .before .before in
@@ -76,7 +67,6 @@ loop-again c =
           (c .opposing .ensures lane (getD vs line X) (lane-read lane _ vs _ _ _ line l (read .0) (read .1) (output .line) (omega (arith, output .below, output .line, e)))),
     )
 
--- src/lib.rt:150:1
 returns : tie.Need-returns Inv-loop μ-loop
 returns c = λ lane f vs l e.
     let start = c .before .before .before .before .before .before in

@@ -54,20 +54,16 @@ found-more c lane f st s l e =
     rw (← (part-row cs (start .args .free .now) (start .args .job .outputs) (loop .u) (start .pre .0 .sizes .outputs))) (c .opposing .ensures lane f _ values (length-lineValues cs f _ _)) in
     ever-more lane _ _ _ _ (before .1) opposing
 
--- src/lib.rt:190:5
 loop-holds : tie.Need-loop-holds Inv-loop μ-loop
 unfolding stateAt
 loop-holds c = (omega arith, refl, refl, λ lane f st s l e. (l, ever-none lane _))
 
--- src/lib.rt:191:18
 mul-at : tie.Need-mul-at Inv-loop μ-loop
 mul-at c = omega (arith, small c)
 
--- src/lib.rt:192:18
 add-to : tie.Need-add-to Inv-loop μ-loop
 add-to c = omega (arith, small (c .before), c .before .before .before .before .before .before .before .before .before .before .before .before .before .pre .0 .circuit .outputs, c .before .before .before .before .before .before .before .before .before .before .before .before .before .pre .0 .sizes .outputs)
 
--- src/lib.rt:193:9
 values-at-requires : tie.Need-values-at-requires Inv-loop μ-loop
 values-at-requires c κs =
     let loop = c .before .before .before .before .before .loop in
@@ -83,56 +79,45 @@ values-at-requires c κs =
       omega (arith, pre .0 .stateRoom, loop .inv .2),
     )
 
--- src/lib.rt:194:63
 sub-opposing : tie.Need-sub-opposing Inv-loop μ-loop
 sub-opposing c = omega arith
 
--- src/lib.rt:194:63
 part-opposing-start : tie.Need-part-opposing-start Inv-loop μ-loop
 part-opposing-start c = omega arith
 
--- src/lib.rt:194:63
 part-opposing-end : tie.Need-part-opposing-end Inv-loop μ-loop
 part-opposing-end c =
     let pre = c .before .before .before .before .before .before .before .before .before .before .before .before .before .before .before .before .before .before .before .pre in
     let all : c .before .before .before .before .before .before .before .before .before .before .before .before .before .before .before .before .before .before .before .args .units * c .before .before .before .before .before .before .before .before .before .before .before .before .before .before .before .before .before .before .before .args .job .outputs ≤ length (c .before .before .before .before .before .before .before .before .before .before .before .before .before .before .before .before .before .before .before .args .free .now) = rw (pre .0 .sizes .outputs) (pre .2) in
     omega (arith, all, record-fits (c .before .before .before .before .before .before .before .before .before .before .before .before .before .before .before .before .before .before .before .args .job .outputs) (c .before .before .before .before .before .before .before .before .before .loop .u) (c .before .before .before .before .before .before .before .before .before .before .before .before .before .before .before .before .before .before .before .args .units) (c .before .before .before .before .before .before .before .before .loop-test .taken))
 
--- src/lib.rt:194:25
 opposing-requires : tie.Need-opposing-requires Inv-loop μ-loop
 opposing-requires c κs =
     let pre = c .before .before .before .before .before .before .before .before .before .before .before .before .before .before .before .before .before .before .before .before .pre in
     (pre .0 .circuit, pre .0 .outputTable, pre .0 .sizes .outputs, omega (arith, pre .0 .lineRoom, c .before .before .before .before .before .before .before .before .before .before .loop .inv .1, c .before .before .before .words .given), row-long _ _ _ _ (c .before .before .before .before .before .before .before .before .before .loop-test .taken) (rw (pre .0 .sizes .outputs) (pre .2)))
 
--- src/lib.rt:196:13
 same-length : tie.Need-same-length Inv-loop μ-loop
 same-length c = omega (arith, c .before .before .before .before .before .before .before .before .before .before .before .before .loop .inv .1, c .before .before .before .before .before .words .given)
 
--- src/lib.rt:196:13
 same-length-2 : tie.Need-same-length-2 Inv-loop μ-loop
 same-length-2 c = c .before .before .before .before .before .before .before .before .before .before .before .before .loop .inv .2
 
--- src/lib.rt:196:13
 returns : tie.Need-returns Inv-loop μ-loop
 returns c = λ lane f st w s l e.
     ever-stop lane _ _ _ _ _ (found-more (c .before) lane f st s l e) (c .before .before .before .before .before .before .before .before .before .before .before .loop-test .taken) (c .if1 .taken) w
 
--- src/lib.rt:198:9
 next-state-requires : tie.Need-next-state-requires Inv-loop μ-loop
 next-state-requires c κs =
     let loop = c .before .before .before .before .before .before .before .before .before .before .before .before .before .before .loop in
     let pre = c .before .before .before .before .before .before .before .before .before .before .before .before .before .before .before .before .before .before .before .before .before .before .before .before .pre in
     (pre .0 .circuit, pre .0 .flopTable, pre .0 .sizes .flops, pre .0 .hitRoom, pre .0 .maskRoom, omega (arith, pre .0 .lineRoom, loop .inv .1, c .before .before .before .before .before .before .before .words .given), omega (arith, pre .0 .sizes .flops, pre .0 .stateRoom, loop .inv .2))
 
--- src/lib.rt:199:9
 add-u : tie.Need-add-u Inv-loop μ-loop
 add-u c = omega (arith, c .before .before .before .before .before .before .before .before .before .before .before .before .before .before .before .before .loop-test .taken, c .before .before .before .before .before .before .before .before .before .before .before .before .before .before .before .before .before .before .before .before .before .before .before .before .before .before .before .pre .1, c .before .before .before .before .before .before .before .before .before .before .before .before .before .before .before .before .before .before .before .before .before .before .before .before .before .before .before .pre .0 .test .most)
 
--- src/lib.rt:190:5
 loop-less : tie.Need-loop-less Inv-loop μ-loop
 loop-less c = omega (arith, c .before .before .before .before .before .before .before .before .before .before .before .before .before .before .before .before .loop-test .taken)
 
--- src/lib.rt:190:5
 loop-again : tie.Need-loop-again Inv-loop μ-loop
 loop-again c =
     let loop = c .before .before .before .before .before .before .before .before .before .before .before .before .before .before .before .before .before .loop in
@@ -148,15 +133,12 @@ loop-again c =
       ),
     )
 
--- src/lib.rt:167:1
 same-length-3 : tie.Need-same-length-3 Inv-loop μ-loop
 same-length-3 c = c .before .loop .inv .1
 
--- src/lib.rt:167:1
 same-length-4 : tie.Need-same-length-4 Inv-loop μ-loop
 same-length-4 c = c .before .loop .inv .2
 
--- src/lib.rt:167:1
 returns-2 : tie.Need-returns-2 Inv-loop μ-loop
 returns-2 c = λ lane f st w s l e.
     let loop = c .before .loop in

@@ -18,23 +18,18 @@ Inv-loop c count state₀ s₀ state s =
 abbrev μ-loop : tie.MeasureT-loop
 μ-loop c count state₀ s₀ state s = count - s
 
--- src/lib.rt:49:5
 loop-holds : tie.Need-loop-holds Inv-loop μ-loop
 loop-holds c = (omega arith, refl, λ lane. power-none (c .before .before .args .c .now) lane _)
 
--- src/lib.rt:50:9
 put-lanes-requires : tie.Need-put-lanes-requires Inv-loop μ-loop
 put-lanes-requires c κs = omega (arith, c .before .loop-test .taken, c .before .before .loop .inv .1, c .before .before .before .before .before .pre .1)
 
--- src/lib.rt:51:9
 add-s : tie.Need-add-s Inv-loop μ-loop
 add-s c = omega (arith, c .before .before .before .before .loop-test .taken)
 
--- src/lib.rt:49:5
 loop-less : tie.Need-loop-less Inv-loop μ-loop
 loop-less c = omega (arith, c .before .before .before .before .loop-test .taken)
 
--- src/lib.rt:49:5
 loop-again : tie.Need-loop-again Inv-loop μ-loop
 loop-again c =
     let turn = c .before .before .before .before in
@@ -45,11 +40,9 @@ loop-again c =
       λ lane. power-more _ lane _ _ _ (c .before .before .put-lanes .ensures) (omega (arith, turn .loop-test .taken, start .pre .0)) (omega (arith, turn .loop-test .taken, loop .inv .1, start .pre .1)) (loop .inv .2 lane),
     )
 
--- src/lib.rt:44:1
 same-length : tie.Need-same-length Inv-loop μ-loop
 same-length c = c .before .loop .inv .1
 
--- src/lib.rt:44:1
 returns : tie.Need-returns Inv-loop μ-loop
 returns c = λ lane. power-all (c .before .before .before .before .args .c .now) lane _ (c .before .loop .s) (omega (arith, c .before .loop .inv .0, c .loop-test .left, c .before .before .before .before .pre .0)) (c .before .loop .inv .2 lane)
 

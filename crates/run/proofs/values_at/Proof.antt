@@ -6,35 +6,27 @@ use Rattle.run.proofs.values_at.Reads as reads
 use Rattle.run.proofs.values_at.Lts as lts
 use Rattle.unit.proofs.simulate_unit.Reads as simulate-unit-reads
 
--- src/lib.rt:34:14
 mul-at : tie.Need-mul-at
 mul-at c = search needs
 
--- src/lib.rt:35:14
 add-to : tie.Need-add-to
 add-to c = search needs
 
--- src/lib.rt:36:35
 sub-simulate-unit : tie.Need-sub-simulate-unit
 sub-simulate-unit c = search needs
 
--- src/lib.rt:36:35
 part-simulate-unit-start : tie.Need-part-simulate-unit-start
 part-simulate-unit-start c = search needs
 
--- src/lib.rt:36:35
 part-simulate-unit-end : tie.Need-part-simulate-unit-end
 part-simulate-unit-end c = search needs
 
--- src/lib.rt:36:5
 simulate-unit-requires : tie.Need-simulate-unit-requires
 simulate-unit-requires c κs = search needs
 
--- src/lib.rt:18:1
 same-length : tie.Need-same-length
 same-length c = search needs
 
--- src/lib.rt:18:1
 returns : tie.Need-returns
 returns c = λ lane f st s l e.
     let start = c .before .before .before .before .before .before .before .before .before .before .before in

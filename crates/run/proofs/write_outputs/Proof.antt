@@ -40,43 +40,33 @@ inside c =
     let start = turn .before .before .before .before .before .before in
     omega (arith, turn .loop-test .taken, turn .before .loop .inv .1, start .pre .4)
 
--- src/lib.rt:53:5
 loop-holds : tie.Need-loop-holds Inv-loop μ-loop
 loop-holds c = (omega arith, refl, λ f vs done old l e w a d. row-none done (outputs (c .before .before .before .before .args .c .now) f vs) old _ a)
 
--- src/lib.rt:54:39
 mul-lanes-at : tie.Need-mul-lanes-at Inv-loop μ-loop
 mul-lanes-at c = let start = c .before .before .before .before .before .before in omega (arith, start .pre .0 .outputs, start .pre .2)
 
--- src/lib.rt:54:39
 shared-slice-read-lanes-at : tie.Need-shared-slice-read-lanes-at Inv-loop μ-loop
 shared-slice-read-lanes-at c = at (c .before) .place
 
--- src/lib.rt:54:13
 lanes-at-requires : tie.Need-lanes-at-requires Inv-loop μ-loop
 lanes-at-requires c κs = omega (arith, at (c .before) .below, c .before .before .before .before .before .before .before .pre .3)
 
--- src/lib.rt:55:27
 lane-requires : tie.Need-lane-requires Inv-loop μ-loop
 lane-requires c κs = omega arith
 
--- src/lib.rt:55:14
 add-area : tie.Need-add-area Inv-loop μ-loop
 add-area c = let start = c .before .before .before .before .before .before .before .before .before in omega (arith, start .pre .4, c .before .before .before .loop-test .taken)
 
--- src/lib.rt:55:9
 slice-write-area : tie.Need-slice-write-area Inv-loop μ-loop
 slice-write-area c = inside c
 
--- src/lib.rt:56:9
 add-o : tie.Need-add-o Inv-loop μ-loop
 add-o c = omega (arith, c .before .before .before .loop-test .taken)
 
--- src/lib.rt:53:5
 loop-less : tie.Need-loop-less Inv-loop μ-loop
 loop-less c = omega (arith, c .before .before .before .loop-test .taken)
 
--- src/lib.rt:53:5
 loop-again : tie.Need-loop-again Inv-loop μ-loop
 loop-again c =
     let turn = c .before .before .before in
@@ -94,11 +84,9 @@ loop-again c =
           d (rw (length-outputs _ f vs) below) (inside c) (loop .inv .2 f vs done old l e w a d),
     )
 
--- src/lib.rt:40:1
 same-length : tie.Need-same-length Inv-loop μ-loop
 same-length c = c .before .loop .inv .1
 
--- src/lib.rt:40:1
 returns : tie.Need-returns Inv-loop μ-loop
 returns c = λ f vs done old l e w a d.
     let start = c .before .before .before .before .before .before in

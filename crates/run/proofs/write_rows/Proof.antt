@@ -37,20 +37,16 @@ room c =
     let pre = c .before .before .before .before .before .before .before .before .before .before .before .before .before .pre in
     row-room _ _ _ _ _ _ (pre .0 .circuit) (pre .0 .test) (pre .0 .sizes) (pre .1) (pre .2) (c .if1 .taken)
 
--- src/lib.rt:137:16
 add-size : tie.Need-add-size Inv-loop μ-loop
 add-size c = let pre = c .before .before .before .before .before .before .before .before .before .before .pre in omega (arith, pre .0 .sizes .outputs, pre .1, pre .0 .circuit .outputs, pre .0 .circuit .flipFlops)
 
--- src/lib.rt:139:5
 loop-holds : tie.Need-loop-holds Inv-loop μ-loop
 unfolding stateAt rows gather
 loop-holds c = (omega arith, refl, refl, refl, λ f st s l e w. (l, sym (overwritten-none _)))
 
--- src/lib.rt:140:21
 mul-place : tie.Need-mul-place Inv-loop μ-loop
 mul-place c = omega (arith, room c .below)
 
--- src/lib.rt:141:9
 values-at-requires : tie.Need-values-at-requires Inv-loop μ-loop
 values-at-requires c κs =
     let loop = c .before .before .before .before .loop in
@@ -66,40 +62,33 @@ values-at-requires c κs =
       omega (arith, pre .0 .stateRoom, loop .inv .2),
     )
 
--- src/lib.rt:142:9
 write-outputs-requires : tie.Need-write-outputs-requires Inv-loop μ-loop
 write-outputs-requires c κs =
     let loop = c .before .before .before .before .before .before .before .before .before .loop in
     let pre = c .before .before .before .before .before .before .before .before .before .before .before .before .before .before .before .before .before .before .before .before .pre in
     (pre .0 .circuit, pre .0 .outputTable, pre .0 .sizes .outputs, omega (arith, pre .0 .lineRoom, loop .inv .1), omega (arith, room (c .before .before .before .before .before .before .before) .fits, loop .inv .3))
 
--- src/lib.rt:143:45
 add-write-state : tie.Need-add-write-state Inv-loop μ-loop
 add-write-state c = omega (arith, room (c .before .before .before .before .before .before .before .before .before .before .before .before .before) .below, c .before .before .before .before .before .before .before .before .before .before .before .before .before .before .before .before .before .before .before .before .before .before .before .before .before .before .pre .0 .sizes .outputs, c .before .before .before .before .before .before .before .before .before .before .before .before .before .before .before .before .before .before .before .before .before .before .before .before .before .before .pre .0 .circuit .outputs)
 
--- src/lib.rt:143:9
 write-state-requires : tie.Need-write-state-requires Inv-loop μ-loop
 write-state-requires c κs =
     let loop = c .before .before .before .before .before .before .before .before .before .before .before .before .before .before .before .loop in
     let pre = c .before .before .before .before .before .before .before .before .before .before .before .before .before .before .before .before .before .before .before .before .before .before .before .before .before .before .pre in
     (omega (arith, pre .1, pre .0 .stateRoom, loop .inv .2), omega (arith, room (c .before .before .before .before .before .before .before .before .before .before .before .before .before) .fits, loop .inv .3, c .before .before .before .before .area .given))
 
--- src/lib.rt:144:9
 next-state-requires : tie.Need-next-state-requires Inv-loop μ-loop
 next-state-requires c κs =
     let loop = c .before .before .before .before .before .before .before .before .before .before .before .before .before .before .before .before .before .before .before .before .loop in
     let pre = c .before .before .before .before .before .before .before .before .before .before .before .before .before .before .before .before .before .before .before .before .before .before .before .before .before .before .before .before .before .before .before .pre in
     (pre .0 .circuit, pre .0 .flopTable, pre .0 .sizes .flops, pre .0 .hitRoom, pre .0 .maskRoom, omega (arith, pre .0 .lineRoom, loop .inv .1), omega (arith, pre .0 .sizes .flops, pre .0 .stateRoom, loop .inv .2))
 
--- src/lib.rt:145:9
 add-u : tie.Need-add-u Inv-loop μ-loop
 add-u c = omega (arith, c .before .before .before .before .before .before .before .before .before .before .before .before .before .before .before .before .before .before .before .before .before .if1 .taken)
 
--- src/lib.rt:139:5
 loop-less : tie.Need-loop-less Inv-loop μ-loop
 loop-less c = omega (arith, c .before .before .before .before .before .before .before .before .before .before .before .before .before .before .before .before .before .before .before .before .before .if1 .taken)
 
--- src/lib.rt:139:5
 loop-again : tie.Need-loop-again Inv-loop μ-loop
 loop-again c =
     let loop = c .before .before .before .before .before .before .before .before .before .before .before .before .before .before .before .before .before .before .before .before .before .before .before .loop in
@@ -132,19 +121,15 @@ loop-again c =
           ),
     )
 
--- src/lib.rt:119:1
 same-length : tie.Need-same-length Inv-loop μ-loop
 same-length c = c .before .before .loop .inv .1
 
--- src/lib.rt:119:1
 same-length-2 : tie.Need-same-length-2 Inv-loop μ-loop
 same-length-2 c = c .before .before .loop .inv .2
 
--- src/lib.rt:119:1
 same-length-3 : tie.Need-same-length-3 Inv-loop μ-loop
 same-length-3 c = c .before .before .loop .inv .3
 
--- src/lib.rt:119:1
 returns : tie.Need-returns Inv-loop μ-loop
 unfolding rows
 returns c = λ f st s l e w.

@@ -25,35 +25,27 @@ Inv-loop state count area₀ place s₀ area s =
 abbrev μ-loop : tie.MeasureT-loop
 μ-loop state count area₀ place s₀ area s = count - s
 
--- src/lib.rt:83:5
 loop-holds : tie.Need-loop-holds Inv-loop μ-loop
 loop-holds c = (omega arith, refl, λ st done old l e w a d. row-none done st old _ a)
 
--- src/lib.rt:84:13
 lanes-at-requires : tie.Need-lanes-at-requires Inv-loop μ-loop
 lanes-at-requires c κs = omega (arith, c .loop-test .taken, c .before .before .before .before .pre .0)
 
--- src/lib.rt:85:27
 lane-requires : tie.Need-lane-requires Inv-loop μ-loop
 lane-requires c κs = omega arith
 
--- src/lib.rt:85:14
 add-area : tie.Need-add-area Inv-loop μ-loop
 add-area c = omega (arith, c .before .before .loop-test .taken, c .before .before .before .before .before .before .pre .1)
 
--- src/lib.rt:85:9
 slice-write-area : tie.Need-slice-write-area Inv-loop μ-loop
 slice-write-area c = omega (arith, c .before .before .loop-test .taken, c .before .before .before .loop .inv .1, c .before .before .before .before .before .before .pre .1)
 
--- src/lib.rt:86:9
 add-s : tie.Need-add-s Inv-loop μ-loop
 add-s c = omega (arith, c .before .before .loop-test .taken)
 
--- src/lib.rt:83:5
 loop-less : tie.Need-loop-less Inv-loop μ-loop
 loop-less c = omega (arith, c .before .before .loop-test .taken)
 
--- src/lib.rt:83:5
 loop-again : tie.Need-loop-again Inv-loop μ-loop
 loop-again c =
     let turn = c .before .before in
@@ -67,11 +59,9 @@ loop-again c =
           d (omega (arith, e, turn .loop-test .taken)) (omega (arith, turn .loop-test .taken, loop .inv .1, turn .before .before .before .before .pre .1)) (loop .inv .2 st done old l e w a d),
     )
 
--- src/lib.rt:77:1
 same-length : tie.Need-same-length Inv-loop μ-loop
 same-length c = c .before .loop .inv .1
 
--- src/lib.rt:77:1
 returns : tie.Need-returns Inv-loop μ-loop
 returns c = λ st done old l e w a d.
     let end : c .before .loop .s ≡ c .before .before .before .before .args .count = omega (arith, c .before .loop .inv .0, c .loop-test .left) in

@@ -9,71 +9,54 @@ use Rattle.s27_test.proofs.main.Lts as lts
 use Rattle.s27_test.proofs.read.Reads as read-reads
 use Rattle.s27_test.proofs.run.Reads as run-reads
 
--- src/main.rt:115:22
 slice-aggregate-read : tie.Need-slice-aggregate-read
 slice-aggregate-read c = search needs
 
--- src/main.rt:115:38
 slice-aggregate-read-2 : tie.Need-slice-aggregate-read-2
 slice-aggregate-read-2 c = search needs
 
--- src/main.rt:115:9
 read-requires : tie.Need-read-requires
 read-requires c κs = search needs
 
--- src/main.rt:116:22
 slice-aggregate-read-3 : tie.Need-slice-aggregate-read-3
 slice-aggregate-read-3 c = search needs
 
--- src/main.rt:116:35
 slice-aggregate-read-4 : tie.Need-slice-aggregate-read-4
 slice-aggregate-read-4 c = search needs
 
--- src/main.rt:116:9
 read-requires-2 : tie.Need-read-requires-2
 read-requires-2 c κs = search needs
 
--- src/main.rt:117:22
 slice-aggregate-read-5 : tie.Need-slice-aggregate-read-5
 slice-aggregate-read-5 c = search needs
 
--- src/main.rt:117:37
 slice-aggregate-read-6 : tie.Need-slice-aggregate-read-6
 slice-aggregate-read-6 c = search needs
 
--- src/main.rt:117:9
 read-requires-3 : tie.Need-read-requires-3
 read-requires-3 c κs = search needs
 
--- src/main.rt:118:9
 array-share-prefix-circuit : tie.Need-array-share-prefix-circuit
 array-share-prefix-circuit c = search needs
 
--- src/main.rt:118:9
 slice-aggregate-run : tie.Need-slice-aggregate-run
 slice-aggregate-run c = sym (length-take-le _ _ (omega arith))
 
--- src/main.rt:118:28
 array-share-prefix-test : tie.Need-array-share-prefix-test
 array-share-prefix-test c = search needs
 
--- src/main.rt:118:28
 slice-aggregate-run-2 : tie.Need-slice-aggregate-run-2
 slice-aggregate-run-2 c = sym (length-take-le _ _ (omega arith))
 
--- src/main.rt:118:44
 array-share-prefix-faults : tie.Need-array-share-prefix-faults
 array-share-prefix-faults c = search needs
 
--- src/main.rt:118:44
 slice-aggregate-run-3 : tie.Need-slice-aggregate-run-3
 slice-aggregate-run-3 c = sym (length-take-le _ _ (omega arith))
 
--- src/main.rt:118:5
 run-requires : tie.Need-run-requires
 run-requires c κs = search needs
 
--- src/main.rt:111:1
 returns : tie.Need-returns
 returns c = search needs
 

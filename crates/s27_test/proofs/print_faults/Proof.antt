@@ -13,27 +13,21 @@ Inv-loop circuit test faults free outputs j₀ j = j ≤ length faults / 4
 abbrev μ-loop : tie.MeasureT-loop
 μ-loop circuit test faults free outputs j₀ j = length faults / 4 - j
 
--- src/main.rt:82:5
 loop-holds : tie.Need-loop-holds Inv-loop μ-loop
 loop-holds c = omega arith
 
--- src/main.rt:83:9
 print-fault-requires : tie.Need-print-fault-requires Inv-loop μ-loop
 print-fault-requires c κs = omega arith
 
--- src/main.rt:84:9
 add-j : tie.Need-add-j Inv-loop μ-loop
 add-j c = omega arith
 
--- src/main.rt:82:5
 loop-less : tie.Need-loop-less Inv-loop μ-loop
 loop-less c = omega arith
 
--- src/main.rt:82:5
 loop-again : tie.Need-loop-again Inv-loop μ-loop
 loop-again c = omega arith
 
--- src/main.rt:78:1
 returns : tie.Need-returns Inv-loop μ-loop
 returns c = omega arith
 

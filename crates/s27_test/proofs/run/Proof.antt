@@ -12,54 +12,51 @@ use Rattle.s27_test.proofs.print.Reads as print-reads
 use Rattle.s27_test.proofs.print_faults.Reads as print-faults-reads
 use Rattle.s27_test.proofs.respond.Reads as respond-reads
 
--- src/main.rt:90:39
 slice-aggregate-respond : tie.Need-slice-aggregate-respond
 slice-aggregate-respond c = search needs
 
--- src/main.rt:90:44
 slice-aggregate-respond-2 : tie.Need-slice-aggregate-respond-2
 slice-aggregate-respond-2 c = search needs
 
--- src/main.rt:90:9
 respond-requires : tie.Need-respond-requires
 respond-requires c κs = search needs
 
--- src/main.rt:92:9
+slice-aggregate-print : tie.Need-slice-aggregate-print
+slice-aggregate-print c = search needs
+
+print-requires : tie.Need-print-requires
+print-requires c κs = search needs
+
 returns : tie.Need-returns
 returns c = search needs
 
--- src/main.rt:94:9
+returns-2 : tie.Need-returns-2
+returns-2 c = search needs
+
 sizes-of-requires : tie.Need-sizes-of-requires
 unfolding N
 sizes-of-requires c κs = (omega arith, refl)
 
--- src/main.rt:96:15
-slice-aggregate-print : tie.Need-slice-aggregate-print
-slice-aggregate-print c = search needs
+slice-aggregate-print-2 : tie.Need-slice-aggregate-print-2
+slice-aggregate-print-2 c = search needs
 
--- src/main.rt:96:9
-print-requires : tie.Need-print-requires
-print-requires c κs = search needs
+print-requires-2 : tie.Need-print-requires-2
+print-requires-2 c κs = search needs
 
--- src/main.rt:97:9
-returns-2 : tie.Need-returns-2
-returns-2 c = search needs
+returns-3 : tie.Need-returns-3
+returns-3 c = search needs
 
--- src/main.rt:99:41
 array-share-prefix-free : tie.Need-array-share-prefix-free
 array-share-prefix-free c = search needs
 
--- src/main.rt:99:41
 slice-aggregate-print-faults : tie.Need-slice-aggregate-print-faults
 slice-aggregate-print-faults c = sym (length-take-le _ _ (omega arith))
 
--- src/main.rt:99:5
 print-faults-requires : tie.Need-print-faults-requires
 print-faults-requires c κs = search needs
 
--- src/main.rt:88:1
-returns-3 : tie.Need-returns-3
-returns-3 c = search needs
+returns-4 : tie.Need-returns-4
+returns-4 c = search needs
 
 pub run-spec : {M : Type 1} → statement M
 run-spec =
@@ -68,12 +65,15 @@ run-spec =
     slice-aggregate-respond
     slice-aggregate-respond-2
     respond-requires
-    returns
-    sizes-of-requires
     slice-aggregate-print
     print-requires
+    returns
     returns-2
+    sizes-of-requires
+    slice-aggregate-print-2
+    print-requires-2
+    returns-3
     array-share-prefix-free
     slice-aggregate-print-faults
     print-faults-requires
-    returns-3)
+    returns-4)

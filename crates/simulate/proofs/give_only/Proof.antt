@@ -10,11 +10,9 @@ use Rattle.simulate.proofs.give_only.Lts as lts
 use Rattle.circuit.proofs.fault_of.Reads as fault-of-reads
 use Rattle.faults.proofs.give_all.Reads as give-all-reads
 
--- src/lib.rt:24:13
 fault-of-requires : tie.Need-fault-of-requires
 fault-of-requires c κs = search needs
 
--- src/lib.rt:25:9
 give-all-requires : tie.Need-give-all-requires
 give-all-requires c κs =
     let pre = c .before .before .before .before .before .before .before .pre in
@@ -22,21 +20,17 @@ give-all-requires c κs =
     let fits = pre .3 (some-fault _ (c .before .before .before .if1 .taken)) in
     (pre .0, omega (arith, f .line, fits .0), pre .2, omega (arith, f .pin, fits .1), omega (arith, f .value, fits .2))
 
--- src/lib.rt:18:1
 same-length : tie.Need-same-length
 same-length c = search needs
 
--- src/lib.rt:18:1
 same-length-2 : tie.Need-same-length-2
 same-length-2 c = search needs
 
--- src/lib.rt:18:1
 returns : tie.Need-returns
 returns c =
     let f = c .before .before .before .before .before .before .before .fault-of .ensures in
     rw (only-one (c .before .before .before .before .before .before .before .before .before .before .before .before .args .fs .now) (c .before .before .before .before .before .before .before .before .if1 .taken)) (c .before .before .before .before .give-all .ensures .1 0 _ (omega arith) (sym (f .line)) (sym (f .pin)) (sym (f .value)))
 
--- src/lib.rt:18:1
 returns-2 : tie.Need-returns-2
 returns-2 c =
     let start = c .before .before .before .before in

@@ -16,31 +16,24 @@ use Rattle.run.proofs.power_up.Reads as power-up-reads
 use Rattle.run.proofs.write_rows.Reads as write-rows-reads
 use Rattle.simulate.proofs.give_only.Reads as give-only-reads
 
--- src/lib.rt:40:39
 slice-aggregate-list-flops : tie.Need-slice-aggregate-list-flops
 slice-aggregate-list-flops c = search needs
 
--- src/lib.rt:40:5
 list-flops-requires : tie.Need-list-flops-requires
 list-flops-requires c κs = search needs
 
--- src/lib.rt:41:41
 slice-aggregate-list-outputs : tie.Need-slice-aggregate-list-outputs
 slice-aggregate-list-outputs c = search needs
 
--- src/lib.rt:41:5
 list-outputs-requires : tie.Need-list-outputs-requires
 list-outputs-requires c κs = search needs
 
--- src/lib.rt:42:19
 slice-aggregate-give-only : tie.Need-slice-aggregate-give-only
 slice-aggregate-give-only c = search needs
 
--- src/lib.rt:42:30
 slice-aggregate-give-only-2 : tie.Need-slice-aggregate-give-only-2
 slice-aggregate-give-only-2 c = search needs
 
--- src/lib.rt:42:5
 give-only-requires : tie.Need-give-only-requires
 give-only-requires c κs =
     let accepted = c .before .before .before .before .before .before .before .before .before .before .before .before .pre .0 .inputs in (
@@ -52,39 +45,30 @@ give-only-requires c κs =
           (omega (arith, fault .line, accepted .circuit .lines), omega (arith, fault .pin, accepted .circuit .few _ (fault .line)), omega (arith, fault .value))),
     )
 
--- src/lib.rt:43:33
 slice-aggregate-power-up : tie.Need-slice-aggregate-power-up
 slice-aggregate-power-up c = search needs
 
--- src/lib.rt:43:5
 power-up-requires : tie.Need-power-up-requires
 power-up-requires c κs = search needs
 
--- src/lib.rt:49:9
 slice-aggregate-write-rows : tie.Need-slice-aggregate-write-rows
 slice-aggregate-write-rows c = search needs
 
--- src/lib.rt:50:9
 slice-aggregate-write-rows-2 : tie.Need-slice-aggregate-write-rows-2
 slice-aggregate-write-rows-2 c = search needs
 
--- src/lib.rt:51:9
 slice-aggregate-write-rows-3 : tie.Need-slice-aggregate-write-rows-3
 slice-aggregate-write-rows-3 c = search needs
 
--- src/lib.rt:52:9
 slice-aggregate-write-rows-4 : tie.Need-slice-aggregate-write-rows-4
 slice-aggregate-write-rows-4 c = search needs
 
--- src/lib.rt:53:9
 slice-aggregate-write-rows-5 : tie.Need-slice-aggregate-write-rows-5
 slice-aggregate-write-rows-5 c = search needs
 
--- src/lib.rt:54:9
 slice-aggregate-write-rows-6 : tie.Need-slice-aggregate-write-rows-6
 slice-aggregate-write-rows-6 c = search needs
 
--- src/lib.rt:44:5
 write-rows-requires : tie.Need-write-rows-requires
 write-rows-requires c κs =
     let pre = c .before .before .before .before .before .before .before .before .before .before .before .before .before .before .before .before .before .before .before .before .before .before .before .before .before .pre in
@@ -105,11 +89,9 @@ write-rows-requires c κs =
       rw add-zero (pre .0 .room),
     )
 
--- src/lib.rt:30:1
 same-length : tie.Need-same-length
 same-length c = search needs
 
--- src/lib.rt:30:1
 returns : tie.Need-returns
 returns c =
     let cs = c .before .before .before .before .before .before .before .before .before .before .before .before .before .before .before .before .before .before .before .before .before .before .before .before .before .before .before .before .before .before .args .c .now in

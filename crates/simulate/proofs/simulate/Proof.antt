@@ -17,15 +17,12 @@ use Rattle.job.proofs.check_simulate.Reads as check-simulate-reads
 use Rattle.job.proofs.job_of.Reads as job-of-reads
 use Rattle.simulate.proofs.respond.Reads as respond-reads
 
--- src/lib.rt:68:9
 check-simulate-requires : tie.Need-check-simulate-requires
 check-simulate-requires c κs = search needs
 
--- src/lib.rt:69:28
 enum-known-check : tie.Need-enum-known-check
 enum-known-check c = search needs
 
--- src/lib.rt:70:9
 returns : tie.Need-returns
 unfolding answerOf refusalOf
 returns c =
@@ -43,23 +40,18 @@ passed c =
     let told : c .before .before .check-simulate .result ≡ Passed = c .enum-told .given .1 in
     sym (c .before .before .check-simulate .ensures) ∙ ap refusalOf told
 
--- src/lib.rt:72:9
 job-of-requires : tie.Need-job-of-requires
 job-of-requires c κs = let inputs = ready _ _ _ _ _ (passed c) .inputs in (inputs .circuit, inputs .test)
 
--- src/lib.rt:73:16
 mul-size : tie.Need-mul-size
 mul-size c = let l = c .before .job-of .ensures .1 in omega (arith, mul-le-mul (l .units) (l .outputs))
 
--- src/lib.rt:74:5
 respond-requires : tie.Need-respond-requires
 respond-requires c κs = (ready _ _ _ _ _ (passed (c .before .before .before)), c .before .before .job-of .ensures .0)
 
--- src/lib.rt:57:1
 same-length : tie.Need-same-length
 same-length c = search needs
 
--- src/lib.rt:57:1
 returns-2 : tie.Need-returns-2
 unfolding answerOf
 returns-2 c =

@@ -13,31 +13,24 @@ Inv-loop values i₀ i = i ≤ length values
 abbrev μ-loop : tie.MeasureT-loop
 μ-loop values i₀ i = length values - i
 
--- src/main.rt:48:5
 loop-holds : tie.Need-loop-holds Inv-loop μ-loop
 loop-holds c = omega arith
 
--- src/main.rt:49:21
 shared-slice-read-print-value : tie.Need-shared-slice-read-print-value Inv-loop μ-loop
 shared-slice-read-print-value c = omega arith
 
--- src/main.rt:49:9
 print-value-requires : tie.Need-print-value-requires Inv-loop μ-loop
 print-value-requires c κs = omega arith
 
--- src/main.rt:50:9
 add-i : tie.Need-add-i Inv-loop μ-loop
 add-i c = omega arith
 
--- src/main.rt:48:5
 loop-less : tie.Need-loop-less Inv-loop μ-loop
 loop-less c = omega arith
 
--- src/main.rt:48:5
 loop-again : tie.Need-loop-again Inv-loop μ-loop
 loop-again c = omega arith
 
--- src/main.rt:46:1
 returns : tie.Need-returns Inv-loop μ-loop
 returns c = omega arith
 

@@ -14,123 +14,93 @@ use Rattle.simulate_test.proofs.print_kept.Reads as print-kept-reads
 use Rattle.simulate_test.proofs.print_number.Reads as print-number-reads
 use Rattle.simulate_test.proofs.print_values.Reads as print-values-reads
 
--- src/main.rt:64:23
 enum-known-outcome : tie.Need-enum-known-outcome
 enum-known-outcome c = search needs
 
--- src/main.rt:65:19
 slice-aggregate-print : tie.Need-slice-aggregate-print
 slice-aggregate-print c = search needs
 
--- src/main.rt:65:13
 print-requires : tie.Need-print-requires
 print-requires c κs = search needs
 
--- src/main.rt:66:13
 print-number-requires : tie.Need-print-number-requires
 print-number-requires c κs = search needs
 
--- src/main.rt:67:19
 slice-aggregate-print-2 : tie.Need-slice-aggregate-print-2
 slice-aggregate-print-2 c = search needs
 
--- src/main.rt:67:13
 print-requires-2 : tie.Need-print-requires-2
 print-requires-2 c κs = search needs
 
--- src/main.rt:69:23
 slice-aggregate-print-3 : tie.Need-slice-aggregate-print-3
 slice-aggregate-print-3 c = search needs
 
--- src/main.rt:69:17
 print-requires-3 : tie.Need-print-requires-3
 print-requires-3 c κs = search needs
 
--- src/main.rt:70:17
 returns : tie.Need-returns
 returns c = search needs
 
--- src/main.rt:72:26
 slice-aggregate-print-values : tie.Need-slice-aggregate-print-values
 slice-aggregate-print-values c = sym (length-take-le _ _ (omega arith))
 
--- src/main.rt:72:13
 print-values-requires : tie.Need-print-values-requires
 print-values-requires c κs = search needs
 
--- src/main.rt:73:29
 sub-kept : tie.Need-sub-kept
 sub-kept c = search needs
 
--- src/main.rt:73:29
 part-kept-start : tie.Need-part-kept-start
 part-kept-start c = search needs
 
--- src/main.rt:73:29
 part-kept-end : tie.Need-part-kept-end
 part-kept-end c = search needs
 
--- src/main.rt:73:24
 kept-requires : tie.Need-kept-requires
 kept-requires c κs = search needs
 
--- src/main.rt:73:13
 print-kept-requires : tie.Need-print-kept-requires
 print-kept-requires c κs = search needs
 
--- src/main.rt:75:28
 enum-known-outcome-2 : tie.Need-enum-known-outcome-2
 enum-known-outcome-2 c = search needs
 
--- src/main.rt:76:19
 slice-aggregate-print-4 : tie.Need-slice-aggregate-print-4
 slice-aggregate-print-4 c = search needs
 
--- src/main.rt:76:13
 print-requires-4 : tie.Need-print-requires-4
 print-requires-4 c κs = search needs
 
--- src/main.rt:77:26
 wide-requires : tie.Need-wide-requires
 wide-requires c κs = search needs
 
--- src/main.rt:77:13
 print-number-requires-2 : tie.Need-print-number-requires-2
 print-number-requires-2 c κs = search needs
 
--- src/main.rt:78:19
 slice-aggregate-print-5 : tie.Need-slice-aggregate-print-5
 slice-aggregate-print-5 c = search needs
 
--- src/main.rt:78:13
 print-requires-5 : tie.Need-print-requires-5
 print-requires-5 c κs = search needs
 
--- src/main.rt:79:13
 print-number-requires-3 : tie.Need-print-number-requires-3
 print-number-requires-3 c κs = search needs
 
--- src/main.rt:80:36
 kept-requires-2 : tie.Need-kept-requires-2
 kept-requires-2 c κs = search needs
 
--- src/main.rt:80:48
 kept-requires-3 : tie.Need-kept-requires-3
 kept-requires-3 c κs = search needs
 
--- src/main.rt:80:24
 both-requires : tie.Need-both-requires
 both-requires c κs = search needs
 
--- src/main.rt:80:13
 print-kept-requires-2 : tie.Need-print-kept-requires-2
 print-kept-requires-2 c κs = search needs
 
--- src/main.rt:62:1
 returns-2 : tie.Need-returns-2
 returns-2 c = search needs
 
--- src/main.rt:62:1
 returns-3 : tie.Need-returns-3
 returns-3 c = search needs
 

@@ -12,155 +12,117 @@ use Rattle.simulate_test.proofs.fill.Reads as fill-reads
 use Rattle.simulate_test.proofs.print.Reads as print-reads
 use Rattle.simulate_test.proofs.report.Reads as report-reads
 
--- src/main.rt:90:16
 add-from : tie.Need-add-from
 add-from c = search needs
 
--- src/main.rt:91:23
 word-at-requires : tie.Need-word-at-requires
 word-at-requires c κs = search needs
 
--- src/main.rt:91:16
 add-test : tie.Need-add-test
 add-test c = search needs
 
--- src/main.rt:92:48
 add-word-at : tie.Need-add-word-at
 add-word-at c = search needs
 
--- src/main.rt:92:25
 word-at-requires-2 : tie.Need-word-at-requires-2
 word-at-requires-2 c κs = search needs
 
--- src/main.rt:92:18
 add-faults : tie.Need-add-faults
 add-faults c = search needs
 
--- src/main.rt:93:47
 add-word-at-2 : tie.Need-add-word-at-2
 add-word-at-2 c = search needs
 
--- src/main.rt:93:24
 word-at-requires-3 : tie.Need-word-at-requires-3
 word-at-requires-3 c κs = search needs
 
--- src/main.rt:93:15
 add-end : tie.Need-add-end
 add-end c = search needs
 
--- src/main.rt:94:36
 add-word-at-3 : tie.Need-add-word-at-3
 add-word-at-3 c = search needs
 
--- src/main.rt:94:9
 word-at-requires-4 : tie.Need-word-at-requires-4
 word-at-requires-4 c κs = search needs
 
--- src/main.rt:95:36
 add-word-at-4 : tie.Need-add-word-at-4
 add-word-at-4 c = search needs
 
--- src/main.rt:95:9
 word-at-requires-5 : tie.Need-word-at-requires-5
 word-at-requires-5 c κs = search needs
 
--- src/main.rt:97:15
 slice-aggregate-print : tie.Need-slice-aggregate-print
 slice-aggregate-print c = search needs
 
--- src/main.rt:97:9
 print-requires : tie.Need-print-requires
 print-requires c κs = search needs
 
--- src/main.rt:98:9
 returns : tie.Need-returns
 returns c = search needs
 
--- src/main.rt:101:9
 returns-2 : tie.Need-returns-2
 returns-2 c = search needs
 
--- src/main.rt:104:9
 returns-3 : tie.Need-returns-3
 returns-3 c = search needs
 
--- src/main.rt:106:5
 fill-requires : tie.Need-fill-requires
 fill-requires c κs = search needs
 
--- src/main.rt:107:5
 fill-requires-2 : tie.Need-fill-requires-2
 fill-requires-2 c κs = search needs
 
--- src/main.rt:109:9
 sub-simulate : tie.Need-sub-simulate
 sub-simulate c = search needs
 
--- src/main.rt:109:9
 part-simulate-start : tie.Need-part-simulate-start
 part-simulate-start c = search needs
 
--- src/main.rt:109:9
 part-simulate-end : tie.Need-part-simulate-end
 part-simulate-end c = search needs
 
--- src/main.rt:110:9
 sub-simulate-2 : tie.Need-sub-simulate-2
 sub-simulate-2 c = search needs
 
--- src/main.rt:110:9
 part-simulate-start-2 : tie.Need-part-simulate-start-2
 part-simulate-start-2 c = search needs
 
--- src/main.rt:110:9
 part-simulate-end-2 : tie.Need-part-simulate-end-2
 part-simulate-end-2 c = search needs
 
--- src/main.rt:111:9
 sub-simulate-3 : tie.Need-sub-simulate-3
 sub-simulate-3 c = search needs
 
--- src/main.rt:111:9
 part-simulate-start-3 : tie.Need-part-simulate-start-3
 part-simulate-start-3 c = search needs
 
--- src/main.rt:111:9
 part-simulate-end-3 : tie.Need-part-simulate-end-3
 part-simulate-end-3 c = search needs
 
--- src/main.rt:112:9
 slice-relend-prefix-simulate : tie.Need-slice-relend-prefix-simulate
 slice-relend-prefix-simulate c = search needs
 
--- src/main.rt:112:9
 slice-aggregate-simulate : tie.Need-slice-aggregate-simulate
 slice-aggregate-simulate c = sym (length-take-le _ _ (omega (arith, c .before .before .before .before .before .before .before .before .before .work .given, c .before .before .before .before .before .before .before .before .before .before .before .before .before .if2 .left)))
 
--- src/main.rt:113:9
 slice-relend-prefix-simulate-2 : tie.Need-slice-relend-prefix-simulate-2
 slice-relend-prefix-simulate-2 c = search needs
 
--- src/main.rt:113:9
 slice-aggregate-simulate-2 : tie.Need-slice-aggregate-simulate-2
 slice-aggregate-simulate-2 c = sym (length-take-le _ _ (omega (arith, c .before .before .before .before .before .before .result .given, c .before .before .before .before .before .before .before .before .before .before .before .before .before .if3 .left)))
 
--- src/main.rt:108:9
 simulate-requires : tie.Need-simulate-requires
 simulate-requires c κs = search needs
 
--- src/main.rt:115:5
 report-requires : tie.Need-report-requires
 report-requires c κs = search needs
 
--- src/main.rt:86:1
 same-length : tie.Need-same-length
 same-length c = search needs
 
--- src/main.rt:86:1
 same-length-2 : tie.Need-same-length-2
 same-length-2 c = search needs
 
--- src/main.rt:86:1
 returns-4 : tie.Need-returns-4
 returns-4 c = search needs
 

@@ -15,35 +15,27 @@ Inv-loop jobs work₀ result₀ at₀ work result at = (at ≤ length jobs) × (
 abbrev μ-loop : tie.MeasureT-loop
 μ-loop jobs work₀ result₀ at₀ work result at = length jobs - at
 
--- src/main.rt:121:5
 loop-holds : tie.Need-loop-holds Inv-loop μ-loop
 loop-holds c = (omega arith, refl, refl)
 
--- src/main.rt:121:11
 add-loop : tie.Need-add-loop Inv-loop μ-loop
 add-loop c = search needs
 
--- src/main.rt:122:9
 run-job-requires : tie.Need-run-job-requires Inv-loop μ-loop
 run-job-requires c κs = omega (arith, c .before .before .loop-test .taken)
 
--- src/main.rt:121:5
 loop-less : tie.Need-loop-less Inv-loop μ-loop
 loop-less c = omega (arith, c .before .before .before .before .run-job .ensures .0, c .before .before .before .before .run-job .ensures .1, c .before .before .before .before .before .before .before .loop-test .taken)
 
--- src/main.rt:121:5
 loop-again : tie.Need-loop-again Inv-loop μ-loop
 loop-again c = (c .before .before .before .before .run-job .ensures .1, omega (arith, c .before .before .before .before .before .before .before .before .loop .inv .1, c .before .before .before .work .given), omega (arith, c .before .before .before .before .before .before .before .before .loop .inv .2, c .before .result .given))
 
--- src/main.rt:119:1
 same-length : tie.Need-same-length Inv-loop μ-loop
 same-length c = c .before .loop .inv .1
 
--- src/main.rt:119:1
 same-length-2 : tie.Need-same-length-2 Inv-loop μ-loop
 same-length-2 c = c .before .loop .inv .2
 
--- src/main.rt:119:1
 returns : tie.Need-returns Inv-loop μ-loop
 returns c = tt
 

@@ -5,19 +5,15 @@ use Rattle.unit.proofs.any_gate.Reads as reads
 use Rattle.unit.proofs.any_gate.Lts as lts
 use Rattle.unit.proofs.gate_lanes.Reads as gate-lanes-reads
 
--- src/lib.rt:85:9
 gate-lanes-requires : tie.Need-gate-lanes-requires
 gate-lanes-requires c κs = search needs
 
--- src/lib.rt:85:9
 returns : tie.Need-returns
 returns c = λ t f vs s l e. c .gate-lanes .ensures t f vs (rw (← (c .before .if1 .taken)) s) l e
 
--- src/lib.rt:87:5
 gate-lanes-requires-2 : tie.Need-gate-lanes-requires-2
 gate-lanes-requires-2 c κs = search needs
 
--- src/lib.rt:80:1
 returns-2 : tie.Need-returns-2
 returns-2 c = search needs
 

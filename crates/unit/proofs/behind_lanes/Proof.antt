@@ -10,34 +10,28 @@ use Rattle.lanes.proofs.Lanes.all.Reads as all-reads
 use Rattle.unit.proofs.any_gate.Reads as any-gate-reads
 use Rattle.unit.proofs.lanes_at.Reads as lanes-at-reads
 
--- src/lib.rt:81:25
 shared-slice-read-all : tie.Need-shared-slice-read-all
 shared-slice-read-all c =
     let start = c .before .before .before .before .before .before .before in
     omega (arith, start .pre .6, start .pre .8, input-place _ _ (start .pre .1) (sym (start .pre .2) ∙ c .before .match .keys1))
 
--- src/lib.rt:81:14
 all-requires : tie.Need-all-requires
 all-requires c κs = search needs
 
--- src/lib.rt:82:14
 lanes-at-requires : tie.Need-lanes-at-requires
 lanes-at-requires c κs =
     let start = c .before .before .before .before .before .before in
     omega (arith, start .pre .7, start .pre .9, state-place _ _ (start .pre .1) (sym (start .pre .2) ∙ c .match .keys2))
 
--- src/lib.rt:83:14
 any-gate-requires : tie.Need-any-gate-requires
 any-gate-requires c κs = search needs
 
--- src/lib.rt:63:1
 returns : tie.Need-returns
 returns c =
     let start = c .before .before .before .before .before .before .before .before in
     let e = sym (start .pre .2) ∙ c .before .before .match .keys1 in
     λ t f st vs l s ls es h eh. behind-input t _ _ _ f _ st vs _ _ e (start .pre .6) (omega (arith, start .pre .6, start .pre .8, input-place _ _ (start .pre .1) e)) (c .all .ensures t l)
 
--- src/lib.rt:63:1
 returns-2 : tie.Need-returns-2
 returns-2 c =
     let start = c .before .before .before .before .before .before .before in
@@ -47,7 +41,6 @@ returns-2 c =
     behind-state t _ _ _ f _ st vs _ _ e (start .pre .7)
     (lane-read t _ st _ _ _ _ ls (read .0) (read .1) refl (omega (arith, es, start .pre .7, state-place _ _ (start .pre .1) e)))
 
--- src/lib.rt:63:1
 returns-3 : tie.Need-returns-3
 returns-3 c =
     let start = c .before .before .before .before .before .before .before in

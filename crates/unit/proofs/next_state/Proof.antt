@@ -29,46 +29,36 @@ at c =
     let start = c .before .before .before .before .before .before .before .before in
     flop-at _ _ (start .pre .0) (start .pre .1) _ (omega (arith, c .loop-test .taken, start .pre .2))
 
--- src/lib.rt:160:5
 loop-holds : tie.Need-loop-holds Inv-loop μ-loop
 loop-holds c = (omega arith, refl, λ t f vs s l e. next-none _ f vs t _)
 
--- src/lib.rt:161:17
 mul-n : tie.Need-mul-n Inv-loop μ-loop
 mul-n c = omega (arith, c .before .before .before .before .before .before .before .before .pre .0 .flipFlops, c .before .before .before .before .before .before .before .before .pre .2)
 
--- src/lib.rt:161:17
 shared-slice-read-n : tie.Need-shared-slice-read-n Inv-loop μ-loop
 shared-slice-read-n c = at (c .before) .place
 
--- src/lib.rt:162:33
 shared-slice-read-wide : tie.Need-shared-slice-read-wide Inv-loop μ-loop
 shared-slice-read-wide c = omega (arith, at (c .before .before) .below, c .before .before .before .before .before .before .before .before .before .before .pre .3)
 
--- src/lib.rt:162:13
 wide-requires : tie.Need-wide-requires Inv-loop μ-loop
 wide-requires c κs = tt
 
--- src/lib.rt:163:29
 pin-lanes-requires : tie.Need-pin-lanes-requires Inv-loop μ-loop
 pin-lanes-requires c κs =
     let pre = c .before .before .before .before .before .before .before .before .before .before .before .before .pre in
     let flop = at (c .before .before .before .before) in
     (omega (arith, flop .below, pre .0 .size), omega arith, omega arith, pre .4, omega (arith, c .before .wide .ensures .1), omega (arith, flop .fed, pre .5))
 
--- src/lib.rt:163:9
 put-lanes-requires : tie.Need-put-lanes-requires Inv-loop μ-loop
 put-lanes-requires c κs = omega (arith, c .before .before .before .before .before .before .loop .inv .1, c .before .before .before .before .before .before .before .before .before .before .before .before .before .pre .6)
 
--- src/lib.rt:164:9
 add-s : tie.Need-add-s Inv-loop μ-loop
 add-s c = omega arith
 
--- src/lib.rt:160:5
 loop-less : tie.Need-loop-less Inv-loop μ-loop
 loop-less c = omega arith
 
--- src/lib.rt:160:5
 loop-again : tie.Need-loop-again Inv-loop μ-loop
 loop-again c =
     let loop = c .before .before .before .before .before .before .before .before .before .loop in
@@ -83,11 +73,9 @@ loop-again c =
           (c .before .before .before .pin-lanes .ensures t f vs (stuck-row t _ _ f _ _ s (omega (arith, flop .below, start .pre .3)) (c .before .before .before .before .before .wide .ensures .0)) l (omega (arith, flop .fed, e)))),
     )
 
--- src/lib.rt:145:1
 same-length : tie.Need-same-length Inv-loop μ-loop
 same-length c = c .before .loop .inv .1
 
--- src/lib.rt:145:1
 returns : tie.Need-returns Inv-loop μ-loop
 returns c = λ t f vs s l e. next-all _ f vs t _ _ (omega (arith, c .before .before .before .before .before .before .before .before .pre .2)) (c .before .loop .inv .2 t f vs s l e)
 

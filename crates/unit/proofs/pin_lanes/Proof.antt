@@ -9,19 +9,15 @@ use Rattle.circuit.proofs.pin_of.Reads as pin-of-reads
 use Rattle.unit.proofs.lanes_at.Reads as lanes-at-reads
 use Rattle.unit.proofs.seen_at.Reads as seen-at-reads
 
--- src/lib.rt:53:9
 pin-of-requires : tie.Need-pin-of-requires
 pin-of-requires c κs = search needs
 
--- src/lib.rt:54:28
 lanes-at-requires : tie.Need-lanes-at-requires
 lanes-at-requires c κs = search needs
 
--- src/lib.rt:54:5
 seen-at-requires : tie.Need-seen-at-requires
 seen-at-requires c κs = search needs
 
--- src/lib.rt:48:1
 returns : tie.Need-returns
 unfolding pinSeen
 returns c = λ t f vs s l h.

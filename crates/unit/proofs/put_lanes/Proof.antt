@@ -6,39 +6,30 @@ use Rattle.unit.proofs.put_lanes.Tie as tie
 use Rattle.unit.proofs.put_lanes.Reads as reads
 use Rattle.unit.proofs.put_lanes.Lts as lts
 
--- src/lib.rt:31:11
 mul-words : tie.Need-mul-words
 mul-words c = search needs
 
--- src/lib.rt:31:5
 mul-words-2 : tie.Need-mul-words-2
 mul-words-2 c = search needs
 
--- src/lib.rt:31:5
 slice-write-words : tie.Need-slice-write-words
 slice-write-words c = search needs
 
--- src/lib.rt:32:11
 mul-words-3 : tie.Need-mul-words-3
 mul-words-3 c = search needs
 
--- src/lib.rt:32:11
 add-words : tie.Need-add-words
 add-words c = search needs
 
--- src/lib.rt:32:5
 mul-words-4 : tie.Need-mul-words-4
 mul-words-4 c = search needs
 
--- src/lib.rt:32:5
 slice-write-words-2 : tie.Need-slice-write-words-2
 slice-write-words-2 c = simp length-set (omega arith)
 
--- src/lib.rt:27:1
 same-length : tie.Need-same-length
 same-length c = search needs
 
--- src/lib.rt:27:1
 returns : tie.Need-returns
 returns c = search needs
 

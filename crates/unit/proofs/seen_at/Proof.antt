@@ -8,27 +8,21 @@ use Rattle.unit.proofs.seen_at.Lts as lts
 use Rattle.lanes.proofs.Lanes.stuck.Reads as stuck-reads
 use Rattle.unit.proofs.lanes_at.Reads as lanes-at-reads
 
--- src/lib.rt:41:9
 returns : tie.Need-returns
 returns c = λ t f n v s h. seen-free t _ _ v _ _ f n _ s (c .if1 .taken) h
 
--- src/lib.rt:43:29
 mul-lanes-at : tie.Need-mul-lanes-at
 mul-lanes-at c = search needs
 
--- src/lib.rt:43:29
 add-lanes-at : tie.Need-add-lanes-at
 add-lanes-at c = search needs
 
--- src/lib.rt:43:13
 lanes-at-requires : tie.Need-lanes-at-requires
 lanes-at-requires c κs = search needs
 
--- src/lib.rt:43:5
 stuck-requires : tie.Need-stuck-requires
 stuck-requires c κs = search needs
 
--- src/lib.rt:36:1
 returns-2 : tie.Need-returns-2
 returns-2 c = λ t f n v s h.
     seen-held t _ _ v _ _ f n _ s (c .before .before .if1 .left) (omega arith)

@@ -30,26 +30,21 @@ Inv-loop c lines inputs state hits masks words₀ i₀ s₀ n₀ words i s n =
 abbrev μ-loop : tie.MeasureT-loop
 μ-loop c lines inputs state hits masks words₀ i₀ s₀ n₀ words i s n = lines - n
 
--- src/lib.rt:105:5
 loop-holds : tie.Need-loop-holds Inv-loop μ-loop
 unfolding countBelow
 loop-holds c = (omega arith, omega arith, omega arith, refl, refl, refl, λ t f st s l e. values-none _ f _ st t _)
 
--- src/lib.rt:106:13
 kind-of-requires : tie.Need-kind-of-requires Inv-loop μ-loop
 kind-of-requires c κs =
     let start = c .before .before .before .before .before .before .before .before in
     omega (arith, start .pre .0 .size, start .pre .1)
 
--- src/lib.rt:107:33
 shared-slice-read-wide : tie.Need-shared-slice-read-wide Inv-loop μ-loop
 shared-slice-read-wide c = omega (arith, c .before .before .before .before .before .before .before .before .before .before .pre .2)
 
--- src/lib.rt:107:13
 wide-requires : tie.Need-wide-requires Inv-loop μ-loop
 wide-requires c κs = tt
 
--- src/lib.rt:108:13
 behind-lanes-requires : tie.Need-behind-lanes-requires Inv-loop μ-loop
 behind-lanes-requires c κs =
     let turn = c .before .before .before .before in
@@ -67,39 +62,30 @@ behind-lanes-requires c κs =
       start .pre .6,
     )
 
--- src/lib.rt:109:29
 seen-at-requires : tie.Need-seen-at-requires Inv-loop μ-loop
 seen-at-requires c κs = (c .before .before .before .before .before .before .before .before .before .before .before .before .before .before .pre .3, omega (arith, c .before .before .before .wide .ensures .1), omega arith)
 
--- src/lib.rt:109:9
 put-lanes-requires : tie.Need-put-lanes-requires Inv-loop μ-loop
 put-lanes-requires c κs = omega (arith, c .before .before .before .before .before .before .before .before .before .before .before .before .before .before .before .pre .4, c .before .before .before .before .before .before .before .before .loop .inv .5)
 
--- src/lib.rt:110:14
 one-if-requires : tie.Need-one-if-requires Inv-loop μ-loop
 one-if-requires c κs = tt
 
--- src/lib.rt:110:9
 add-i : tie.Need-add-i Inv-loop μ-loop
 add-i c = omega arith
 
--- src/lib.rt:111:14
 one-if-requires-2 : tie.Need-one-if-requires-2 Inv-loop μ-loop
 one-if-requires-2 c κs = tt
 
--- src/lib.rt:111:9
 add-s : tie.Need-add-s Inv-loop μ-loop
 add-s c = omega (arith, c .before .before .before .before .before .before .before .before .before .before .before .before .before .before .before .before .before .before .before .before .pre .0 .lines, c .before .before .before .before .before .before .before .before .before .before .before .before .before .before .before .before .before .before .before .before .pre .1, c .before .before .before .before .before .before .before .before .before .before .before .before .loop-test .taken, c .before .before .before .before .before .before .before .before .before .before .before .before .before .loop .inv .2, c .one-if2 .ensures .1)
 
--- src/lib.rt:112:9
 add-n : tie.Need-add-n Inv-loop μ-loop
 add-n c = omega (arith, c .before .before .before .before .before .before .before .before .before .before .before .before .before .before .before .before .before .before .before .before .pre .0 .lines, c .before .before .before .before .before .before .before .before .before .before .before .before .before .before .before .before .before .before .before .before .pre .1, c .before .before .before .before .before .before .before .before .before .before .before .before .loop-test .taken)
 
--- src/lib.rt:105:5
 loop-less : tie.Need-loop-less Inv-loop μ-loop
 loop-less c = omega arith
 
--- src/lib.rt:105:5
 loop-again : tie.Need-loop-again Inv-loop μ-loop
 unfolding isInput isFlipFlop
 loop-again c =
@@ -122,11 +108,9 @@ loop-again c =
           (c .before .before .before .before .before .seen-at .ensures t f _ _ at (c .before .before .before .before .before .before .before .behind-lanes .ensures t f st _ (s .lane) at l e lane (length-valuesBelow _ f _ st _))),
     )
 
--- src/lib.rt:88:1
 same-length : tie.Need-same-length Inv-loop μ-loop
 same-length c = c .before .loop .inv .5
 
--- src/lib.rt:88:1
 returns : tie.Need-returns Inv-loop μ-loop
 returns c = λ t f st s l e. values-all _ f _ st t _ _ (omega (arith, c .before .before .before .before .before .before .before .before .pre .1)) (c .before .loop .inv .6 t f st s l e)
 

@@ -5,15 +5,12 @@ use Rattle.lanes.proofs.Lanes.all.Tie as tie
 use Rattle.lanes.proofs.Lanes.all.Reads as reads
 use Rattle.lanes.proofs.Lanes.all.Lts as lts
 
--- src/lib.rt:23:5
 returns : tie.Need-returns
 returns c = λ t h. rw (c .match .keys1) (shows-0 t h)
 
--- src/lib.rt:23:5
 returns-2 : tie.Need-returns-2
 returns-2 c = λ t h. rw (c .match .keys2) (shows-1 t h)
 
--- src/lib.rt:23:5
 returns-3 : tie.Need-returns-3
 returns-3 c = λ t h. shows-x t _ (omega arith)
 

@@ -9,31 +9,24 @@ use Rattle.lanes.proofs.Lanes.and.Reads as and-reads
 use Rattle.lanes.proofs.Lanes.or.Reads as or-reads
 use Rattle.lanes.proofs.Lanes.xor.Reads as xor-reads
 
--- src/lib.rt:78:22
 and-requires : tie.Need-and-requires
 and-requires c κs = search needs
 
--- src/lib.rt:79:22
 or-requires : tie.Need-or-requires
 or-requires c κs = search needs
 
--- src/lib.rt:80:18
 xor-requires : tie.Need-xor-requires
 xor-requires c κs = search needs
 
--- src/lib.rt:72:5
 returns : tie.Need-returns
 returns c = λ t v ws h g. more-1 t _ _ _ v ws (omega arith) h
 
--- src/lib.rt:72:5
 returns-2 : tie.Need-returns-2
 returns-2 c = λ t v ws h g. more-2 t _ _ _ v ws (omega arith) (λ w e. c .and .ensures t v w h (rw e g))
 
--- src/lib.rt:72:5
 returns-3 : tie.Need-returns-3
 returns-3 c = λ t v ws h g. more-3 t _ _ _ v ws (omega arith) (λ e. c .or .ensures t v ws h (rw e g))
 
--- src/lib.rt:72:5
 returns-4 : tie.Need-returns-4
 returns-4 c = λ t v ws h g. more-4 t _ _ _ v ws (omega arith) (λ w e. c .xor .ensures t v w h (rw e g))
 

@@ -7,16 +7,13 @@ use Rattle.lanes.proofs.Lanes.finish.Reads as reads
 use Rattle.lanes.proofs.Lanes.finish.Lts as lts
 use Rattle.lanes.proofs.Lanes.invert.Reads as invert-reads
 
--- src/lib.rt:88:13
 invert-requires : tie.Need-invert-requires
 invert-requires c κs = search needs
 
--- src/lib.rt:88:13
 returns : tie.Need-returns
 unfolding invertIf
 returns c = λ t v h. rw (eq-eqb _ _ (c .before .if1 .taken)) (c .invert .ensures t v h)
 
--- src/lib.rt:84:5
 returns-2 : tie.Need-returns-2
 unfolding invertIf
 returns-2 c = λ t v h. rw (ne-eqb _ _ (c .if1 .left)) h

@@ -6,23 +6,18 @@ use Rattle.lanes.proofs.Lanes.lane.Tie as tie
 use Rattle.lanes.proofs.Lanes.lane.Reads as reads
 use Rattle.lanes.proofs.Lanes.lane.Lts as lts
 
--- src/lib.rt:142:13
 shr-if1 : tie.Need-shr-if1
 shr-if1 c = search needs
 
--- src/lib.rt:143:13
 returns : tie.Need-returns
 returns c = λ v l h. sym (read-zero _ _ _ v h (c .if1 .taken))
 
--- src/lib.rt:145:13
 shr-if2 : tie.Need-shr-if2
 shr-if2 c = search needs
 
--- src/lib.rt:146:13
 returns-2 : tie.Need-returns-2
 returns-2 c = λ v l h. sym (read-one _ _ _ v h (c .if2 .taken))
 
--- src/lib.rt:138:5
 returns-3 : tie.Need-returns-3
 returns-3 c = λ v l h. sym (read-X _ _ _ v h l (c .before .before .if1 .left) (c .if2 .left))
 

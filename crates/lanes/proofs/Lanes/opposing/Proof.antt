@@ -5,15 +5,12 @@ use Rattle.lanes.proofs.Lanes.opposing.Tie as tie
 use Rattle.lanes.proofs.Lanes.opposing.Reads as reads
 use Rattle.lanes.proofs.Lanes.opposing.Lts as lts
 
--- src/lib.rt:138:5
 returns : tie.Need-returns
 returns c = λ t v h. opposing-0 t _ _ v _ h (c .match .keys1)
 
--- src/lib.rt:138:5
 returns-2 : tie.Need-returns-2
 returns-2 c = λ t v h. opposing-1 t _ _ v _ h (c .match .keys2)
 
--- src/lib.rt:138:5
 returns-3 : tie.Need-returns-3
 returns-3 c = λ t v h. opposing-X t v _ (omega arith)
 

@@ -5,12 +5,10 @@ use Rattle.rules.proofs.Check.refuse.Tie as tie
 use Rattle.rules.proofs.Check.refuse.Reads as reads
 use Rattle.rules.proofs.Check.refuse.Lts as lts
 
--- src/lib.rt:25:13
 returns : tie.Need-returns
 unfolding refusalOf refuse
 returns c = rw (c .if1 .taken)
 
--- src/lib.rt:21:5
 returns-2 : tie.Need-returns-2
 unfolding refusalOf refuse
 returns-2 c = rw (c .if1 .left)
