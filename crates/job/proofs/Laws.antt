@@ -1,4 +1,4 @@
--- Rows 1 to 10 taken together.
+-- Rows 1 to 10 taken together, and the limits of k and of the bytes that row 13 asks for.
 use mathlib.Core.Path.{_≡_, sym}
 use Prim.Native.Nat.{ℕ, _+_, _*_, _%_, _≤_}
 use native.Mathlib.Omega.{arith}
@@ -13,7 +13,7 @@ use Rattle.lists.proofs.Tests.{or-right-false}
 use Rattle.lists.specs.Scan.{_else_}
 use Rattle.lists.proofs.Scan.{else-assoc, else-none}
 use Rattle.model.specs.Inputs.{faultCount}
-use Rattle.model.specs.Refusals.{Refusal, circuitRows, row7, row8, row9, row10}
+use Rattle.model.specs.Refusals.{Refusal, circuitRows, row7, row8, row9, row10, row12}
 use Rattle.model.proofs.Accepted.{refuse-none, validCircuit, validTest, validFault}
 use Rattle.job.specs.Job.{inputRows, Accepted}
 
@@ -38,6 +38,10 @@ module _ (c t : List ℕ) (least most : ℕ) (fs : List ℕ) where
         few = ltb-false most (faultCount fs) (or-right-false (not (eqb (length fs % 4) 0) || ltb (faultCount fs) least) _ (refuse-none _ 9 0 (g .0)));
         fault = λ j h. validFault c fs j (g .1) h;
       }
+
+pub k-limit : (k : ℕ) → row12 k ≡ none → k ≤ 12
+unfolding row12
+k-limit k e = ltb-false 12 k (refuse-none _ 12 0 e)
 
 pub area-limit : {units outputs flops : ℕ} → units ≤ 1024 → outputs ≤ 256 → flops ≤ 256 → units * (4 * outputs + 16 * flops + 8) ≤ 1024 * 5128
 area-limit u o f = mul-le-mul {m₂ = 5128} u (omega arith)

@@ -1,12 +1,12 @@
-// Rows 7 to 15 of the table of refusals, and for each call the rows that it takes, in the table's order. A row is looked at only where
-// no row above it is broken.
+// Rows 7 to 15 of the table of refusals, one function each, and for each call the rows that it takes, in the table's order. The first
+// that is broken is returned; a row that would use what a row above has not yet allowed is looked at only after it.
 ghost use mathlib.Core.List.{List};
 ghost use mathlib.Core.Path.{_≡_};
 ghost use Prim.Native.Nat.{ℕ, _+_, _*_, _<_, _≤_};
 ghost use lib.ListN.{length};
 ghost use Rattle.lists.specs.Scan.{_else_};
 ghost use Rattle.model.specs.Inputs.{N, I, L, faultAt, faultCount};
-ghost use Rattle.model.specs.Refusals.{row7, row8, row9, faultFits, row10, row11, row13, row14, simulateRefusal, gradeRefusal, chooseRefusal, groupRefusal};
+ghost use Rattle.model.specs.Refusals.{row7, row8, row9, faultFits, row10, row11, row12, row13, row14, row15, simulateRefusal, gradeRefusal, chooseRefusal, groupRefusal};
 ghost use Rattle.model.specs.Accepted.{ValidCircuit, ValidTest};
 ghost use Rattle.rules.specs.Check.{refusalOf};
 ghost use Rattle.job.specs.Job.{inputRows, JobOf, Limited};
@@ -70,6 +70,7 @@ fn check_count(size: usize, least: usize, most: usize) -> Check
     Check::refuse(rules::either(few, most < size / 4), 9, 0)
 }
 
+// Whether a fault's line, pin and value are as row 10 asks.
 fn fault_fits(c: &[u8], lines: usize, fs: &[u8], j: usize) -> bool
     requires { ⌜ (12 * lines ≤ length (now c)) × (lines ≡ N (now c)) × (4 * j + 4 ≤ length (now fs)) ⌝ }
     ensures { λ r. ⌜ r ≡ faultFits (now (c .entry)) (faultAt (now (fs .entry)) j) ⌝ }
@@ -109,6 +110,51 @@ fn check_faults(c: &[u8], lines: usize, fs: &[u8], least: usize, most: usize) ->
     check_each(c, lines, fs, size / 4)
 }
 
+// Row 11, of a plan of so many bytes.
+fn check_plan(size: usize) -> Check
+    ensures { λ r. ⌜ ((p : List ℕ) → length p ≡ size → refusalOf r ≡ row11 p) ⌝ }
+{
+    Check::refuse(rules::either(size % 4 != 0, 4096 < size / 4), 11, 0)
+}
+
+// Row 12.
+fn check_k(k: usize) -> Check
+    ensures { λ r. ⌜ refusalOf r ≡ row12 k ⌝ }
+{
+    Check::refuse(12 < k, 12, 0)
+}
+
+// Row 15, of verdicts of so many bytes.
+fn check_verdicts(size: usize) -> Check
+    ensures { λ r. ⌜ ((vs : List ℕ) → length vs ≡ size → refusalOf r ≡ row15 vs) ⌝ }
+{
+    Check::refuse(rules::either(size % 16 != 0, 524288 < size), 15, 0)
+}
+
+// Row 13.
+fn check_work(job: Job, work: usize) -> Check
+    requires { ⌜ Limited job ⌝ }
+    ensures { λ r. ⌜ ((c t : List ℕ) → JobOf c t job → refusalOf r ≡ row13 c t work) ⌝ }
+{
+    let need = 4 * job.lines + job.units * (4 * job.outputs + 16 * job.flops + 8);
+    Check::refuse(work < need, 13, 0)
+}
+
+// Row 14, of a result of so many bytes.
+fn check_result(size: usize, result: usize) -> Check
+    ensures { λ r. ⌜ refusalOf r ≡ row14 size result ⌝ }
+{
+    Check::refuse(result < size, 14, 0)
+}
+
+// Rows 13 and 14.
+fn check_areas(job: Job, work: usize, size: usize, result: usize) -> Check
+    requires { ⌜ Limited job ⌝ }
+    ensures { λ r. ⌜ ((c t : List ℕ) → JobOf c t job → refusalOf r ≡ (row13 c t work else row14 size result)) ⌝ }
+{
+    check_work(job, work).or(check_result(size, result))
+}
+
 // Rows 1 to 10.
 pub fn check_inputs(c: &[u8], t: &[u8], fs: &[u8], least: usize, most: usize) -> Check
     ensures { λ r. ⌜ refusalOf r ≡ inputRows (now (c .entry)) (now (t .entry)) least most (now (fs .entry)) ⌝ }
@@ -141,16 +187,7 @@ pub fn job_of(c: &[u8], t: &[u8]) -> Job
     }
 }
 
-// Rows 13 and 14, where the result has so many bytes.
-fn check_areas(job: Job, work: usize, size: usize, result: usize) -> Check
-    requires { ⌜ Limited job ⌝ }
-    ensures { λ r. ⌜ ((c t : List ℕ) → JobOf c t job → refusalOf r ≡ (row13 c t work else row14 size result)) ⌝ }
-{
-    let need = 4 * job.lines + job.units * (4 * job.outputs + 16 * job.flops + 8);
-    Check::refuse(work < need, 13, 0).or(Check::refuse(result < size, 14, 0))
-}
-
-// Simulate.
+// Simulate: rows 1 to 10, 13 and 14.
 pub fn check_simulate(c: &[u8], t: &[u8], fs: &[u8], work: usize, result: usize) -> Check
     ensures { λ r. ⌜ refusalOf r ≡ simulateRefusal (now (c .entry)) (now (t .entry)) (now (fs .entry)) work result ⌝ }
 {
@@ -163,14 +200,7 @@ pub fn check_simulate(c: &[u8], t: &[u8], fs: &[u8], work: usize, result: usize)
     check_areas(job, work, size, result)
 }
 
-// Row 11, of a plan of so many bytes.
-fn check_plan(size: usize) -> Check
-    ensures { λ r. ⌜ ((p : List ℕ) → length p ≡ size → refusalOf r ≡ row11 p) ⌝ }
-{
-    Check::refuse(rules::either(size % 4 != 0, 4096 < size / 4), 11, 0)
-}
-
-// Grade.
+// Grade: rows 1 to 14, of a plan of so many bytes.
 pub fn check_grade(
     c: &[u8],
     t: &[u8],
@@ -188,10 +218,10 @@ pub fn check_grade(
     }
     let size = 16 * (fs.len() / 4);
     let areas = check_areas(job_of(c, t), work, size, result);
-    check_plan(plan).or(Check::refuse(12 < k, 12, 0).or(areas))
+    check_plan(plan).or(check_k(k).or(areas))
 }
 
-// Choose.
+// Choose: rows 1 to 10 and 12 to 14.
 pub fn check_choose(c: &[u8], t: &[u8], fs: &[u8], k: usize, work: usize, result: usize) -> Check
     ensures { λ r. ⌜ refusalOf r ≡ chooseRefusal (now (c .entry)) (now (t .entry)) (now (fs .entry)) k work result ⌝ }
 {
@@ -199,8 +229,9 @@ pub fn check_choose(c: &[u8], t: &[u8], fs: &[u8], k: usize, work: usize, result
     if let Check::Broken { rule, at } = inputs {
         return Check::Broken { rule, at };
     }
-    if 12 < k {
-        return Check::Broken { rule: 12, at: 0 };
+    let limit = check_k(k);
+    if let Check::Broken { rule, at } = limit {
+        return Check::Broken { rule, at };
     }
     check_areas(job_of(c, t), work, 4 * k, result)
 }
@@ -209,7 +240,5 @@ pub fn check_choose(c: &[u8], t: &[u8], fs: &[u8], k: usize, work: usize, result
 pub fn check_group(verdicts: usize, result: usize) -> Check
     ensures { λ r. ⌜ ((vs : List ℕ) → length vs ≡ verdicts → refusalOf r ≡ groupRefusal vs result) ⌝ }
 {
-    let wrong = rules::either(verdicts % 16 != 0, 524288 < verdicts);
-    let size = 2 * (verdicts / 16);
-    Check::refuse(wrong, 15, 0).or(Check::refuse(result < size, 14, 0))
+    check_verdicts(verdicts).or(check_result(2 * (verdicts / 16), result))
 }
