@@ -17,12 +17,14 @@ pub struct Sizes {
     pub outputs: usize,
 }
 
+// Line, pin (0 the line itself) and stuck value.
 pub struct Fault {
     pub line: usize,
     pub pin: usize,
     pub value: u8,
 }
 
+// A byte's number in full width.
 pub fn wide(x: u8) -> usize
     ensures { λ r. ⌜ (r ≡ x) × (r < 256) ⌝ }
 {
@@ -39,6 +41,7 @@ pub fn word_at(bytes: &[u8], i: usize) -> usize
     low + 256 * high
 }
 
+// The kind of line n, byte 0 of its record.
 pub fn kind_of(c: &[u8], n: usize) -> u8
     requires { ⌜ 12 * n + 12 ≤ length (now c) ⌝ }
     ensures { λ r. ⌜ r ≡ kind (now (c .entry)) n ⌝ }
@@ -46,6 +49,7 @@ pub fn kind_of(c: &[u8], n: usize) -> u8
     c[12 * n]
 }
 
+// How many pins it has, byte 1.
 pub fn pins_of(c: &[u8], n: usize) -> usize
     requires { ⌜ 12 * n + 12 ≤ length (now c) ⌝ }
     ensures { λ r. ⌜ (r ≡ pinCount (now (c .entry)) n) × (r < 256) ⌝ }
@@ -53,6 +57,7 @@ pub fn pins_of(c: &[u8], n: usize) -> usize
     wide(c[12 * n + 1])
 }
 
+// 1 if it is an output, byte 2.
 pub fn mark_of(c: &[u8], n: usize) -> u8
     requires { ⌜ 12 * n + 12 ≤ length (now c) ⌝ }
     ensures { λ r. ⌜ r ≡ outputMark (now (c .entry)) n ⌝ }
@@ -60,6 +65,7 @@ pub fn mark_of(c: &[u8], n: usize) -> u8
     c[12 * n + 2]
 }
 
+// Byte 3, which row 4 asks to be 0.
 pub fn spare_of(c: &[u8], n: usize) -> u8
     requires { ⌜ 12 * n + 12 ≤ length (now c) ⌝ }
     ensures { λ r. ⌜ r ≡ spareByte (now (c .entry)) n ⌝ }

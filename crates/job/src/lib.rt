@@ -5,7 +5,7 @@ ghost use mathlib.Core.Path.{_≡_};
 ghost use Prim.Native.Nat.{ℕ, _+_, _*_, _<_, _≤_};
 ghost use lib.ListN.{length};
 ghost use Rattle.lists.specs.Scan.{_else_};
-ghost use Rattle.model.specs.Inputs.{N, I, L, faultAt, faultCount};
+ghost use Rattle.model.specs.Inputs.{N, I, faultAt, faultCount};
 ghost use Rattle.model.specs.Refusals.{row7, row8, row9, faultFits, row10, row11, row12, row13, row14, row15, simulateRefusal, gradeRefusal, chooseRefusal, groupRefusal};
 ghost use Rattle.model.specs.Accepted.{ValidCircuit, ValidTest};
 ghost use Rattle.rules.specs.Check.{refusalOf};
@@ -172,7 +172,7 @@ pub fn check_inputs(c: &[u8], t: &[u8], fs: &[u8], least: usize, most: usize) ->
     check_faults(c, lines, fs, least, most)
 }
 
-// The sizes of circuit and test, where no row above is broken.
+// The sizes of a circuit and a test that rows 1 to 8 allow.
 pub fn job_of(c: &[u8], t: &[u8]) -> Job
     requires { ⌜ (ValidCircuit (now c)) × (ValidTest (now c) (now t)) ⌝ }
     ensures { λ r. ⌜ (JobOf (now (c .entry)) (now (t .entry)) r) × (Limited r) ⌝ }

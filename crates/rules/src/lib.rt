@@ -41,6 +41,7 @@ impl Check {
     }
 }
 
+// `||`, with no branch in the caller.
 pub fn either(a: bool, b: bool) -> bool
     ensures { λ r. ⌜ r ≡ (a || b) ⌝ }
 {
@@ -50,6 +51,7 @@ pub fn either(a: bool, b: bool) -> bool
     b
 }
 
+// `&&`, likewise.
 pub fn both(a: bool, b: bool) -> bool
     ensures { λ r. ⌜ r ≡ (a && b) ⌝ }
 {
@@ -100,6 +102,7 @@ fn misnames_from(c: &[u8], n: usize, pins: usize, limit: usize) -> bool
     false
 }
 
+// Where the lines that line n may name end: at itself for a gate, at N for a flip-flop.
 fn limit_of(k: u8, lines: usize, n: usize) -> usize
     ensures { λ r. ⌜ r ≡ cond (leb 2 k) n lines ⌝ }
 {
