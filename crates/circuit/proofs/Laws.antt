@@ -1,16 +1,19 @@
--- A table of line numbers, one line at a time, and which lines it lists.
+-- The tables, one line or pin at a time, and what a valid circuit gives at one line.
 use mathlib.Core.Path.{_≡_, refl, sym, ap, _∙_}
-use Prim.Native.Nat.{ℕ, zero, suc, _+_, _*_, _<_, _≤_}
+use Prim.Native.Nat.{ℕ, zero, suc, _+_, _*_, _/_, _%_, _<_, _≤_}
 use mathlib.Core.Bool.{Bool, true, false, cond}
 use mathlib.Core.List.{List, [], _∷_, _++_, append-nil}
-use lib.ListN.{length, set, length-set, length-append, List·getD-append}
+use lib.ListN.{length, getD, set, length-set, length-append, List·getD-append}
 use lib.Seq.{getD-at, getD-set-same, getD-set-other}
 use native.Mathlib.Omega.{arith}
 use native.Mathlib.Decide.{decLe}
+use lib.Dec.{leb}
+use borrow.Author.Tests.{le-leb, leb-true}
 use Rattle.lists.specs.Scan.{select, countBelow}
 use Rattle.lists.proofs.Scan.{countBelow-less, length-select, select-turn}
-use Rattle.model.specs.Inputs.{N, isFlipFlop, isOutput, kind, outputMark, F, O, flipFlops, outputLines}
-use Rattle.circuit.specs.Table.{Listed, byteIsOne}
+use Rattle.model.specs.Inputs.{N, isFlipFlop, isOutput, isGate, kind, pinCount, pinLine, outputMark, F, O, flipFlops, outputLines}
+use Rattle.model.specs.Accepted.{ValidCircuit}
+use Rattle.circuit.specs.Table.{Listed, byteIsOne, pinRead, pinNumber}
 
 pub listed-none : (P : ℕ → Bool) (table : List ℕ) → Listed (select P 0) table
 unfolding select
@@ -60,3 +63,33 @@ outputs-bytes c = select-same _ _ (N c) (λ n. byte-two n)
   where
     byte-two : (n : ℕ) → byteIsOne c 2 n ≡ isOutput c n
     byte-two n = unfold byteIsOne isOutput outputMark in refl
+
+-- ---- what a valid circuit gives at one line
+pub is-gate : (c : List ℕ) (n k : ℕ) → k ≡ kind c n → 2 ≤ k → isGate c n ≡ true
+unfolding isGate
+is-gate c n k e h = le-leb 2 (kind c n) (omega arith)
+
+pub lower-pin : (c : List ℕ) → ValidCircuit c → (n p : ℕ) → n < N c → isGate c n ≡ true → 1 ≤ p → p ≤ pinCount c n → pinLine c n p < n
+lower-pin c v n zero h g a b = absurd (let z : ⊥ = omega arith in z)
+lower-pin c v n (suc i) h g a b = v .lower n i h g b
+
+-- ---- the table of pins
+-- a gate has the pin that is read for pin p
+read-pin : (count p : ℕ) (b : Bool) → leb p count ≡ b → 1 ≤ count → 1 ≤ p → (1 ≤ cond b p 1) × (cond b p 1 ≤ count)
+read-pin count p true e h g = (g, leb-true p count e)
+read-pin count p false e h g = (omega arith, h)
+
+pub pin-read-has : (count p : ℕ) → 1 ≤ count → 1 ≤ p → (1 ≤ pinRead count p) × (pinRead count p ≤ count)
+unfolding pinRead
+pin-read-has count p h g = read-pin count p (leb p count) refl h g
+
+pub pin-read-lower : (c : List ℕ) → ValidCircuit c → (n p : ℕ) → n < N c → isGate c n ≡ true → 1 ≤ p → pinLine c n (pinRead (pinCount c n) p) < n
+pin-read-lower c v n p h g l = let has = pin-read-has (pinCount c n) p (v .pinned n h g) l in lower-pin c v n _ h g (has .0) (has .1)
+
+pub numbered-more : (c table : List ℕ) (e x : ℕ) → e < length table → ((i : ℕ) → i < e → isGate c (i / 4) ≡ true → getD table i 0 ≡ pinNumber c (i / 4) (i % 4 + 1))
+    → (isGate c (e / 4) ≡ true → x ≡ pinNumber c (e / 4) (e % 4 + 1))
+    → (i : ℕ) → i < e + 1 → isGate c (i / 4) ≡ true → getD (set table e x) i 0 ≡ pinNumber c (i / 4) (i % 4 + 1)
+numbered-more c table e x h before now i l g = elim (decLe (suc i) e) [
+  | yes k ↦ getD-set-other table e i x 0 (λ q. omega arith) ∙ before i (omega arith) g
+  | no k ↦ (let last : i ≡ e = omega arith in rw last (getD-set-same table e x 0 h ∙ now (rw last at g)))
+]

@@ -1,11 +1,11 @@
 -- What the sizes and tables of this crate stand for.
-use Prim.Native.Nat.{ℕ, _+_, _*_, _<_, _≤_}
+use Prim.Native.Nat.{ℕ, _+_, _*_, _/_, _%_, _<_, _≤_}
 use mathlib.Core.Path.{_≡_}
-use mathlib.Core.Bool.{Bool}
+use mathlib.Core.Bool.{Bool, true, cond}
 use mathlib.Core.List.{List}
 use lib.ListN.{getD, length}
-use lib.Dec.{eqb}
-use Rattle.model.specs.Inputs.{N, I, F, O, Fault}
+use lib.Dec.{eqb, leb}
+use Rattle.model.specs.Inputs.{N, I, F, O, kind, pinCount, pinLine, isGate, Fault}
 use Rattle.circuit.specs.declared.Sizes.{Sizes}
 use Rattle.circuit.specs.declared.Fault as fault
 
@@ -17,6 +17,23 @@ pub record Listed (lines table : List ℕ) : Type 0 where
 -- this byte of line n's record is 1: byte 0 of a flip-flop, byte 2 of an output
 unfoldable pub byteIsOne : List ℕ → ℕ → ℕ → Bool
 byteIsOne c byte n = eqb (getD c (12 * n + byte) 0) 1
+
+-- pin p of a gate with so many pins; one that it does not have is pin 1 again, which changes no AND and no OR
+unfoldable pub pinRead : ℕ → ℕ → ℕ
+pinRead count p = cond (leb p count) p 1
+
+-- OR and NOR, kinds 6 and 7: by De Morgan an AND of inverted pins
+unfoldable pub isOr : List ℕ → ℕ → Bool
+isOr c n = eqb (kind c n / 2) 3
+
+-- the number by which pin p of gate n is read: twice its line's, plus 1 if it is read inverted
+unfoldable pub pinNumber : List ℕ → ℕ → ℕ → ℕ
+pinNumber c n p = 2 * pinLine c n (pinRead (pinCount c n) p) + cond (isOr c n) 1 0
+
+-- four numbers a line, of which those of gates count
+pub record PinTable (c table : List ℕ) : Type 0 where
+  pub room : 4 * N c ≤ length table
+  pub same : (e : ℕ) → e < 4 * N c → isGate c (e / 4) ≡ true → getD table e 0 ≡ pinNumber c (e / 4) (e % 4 + 1)
 
 -- the sizes of a circuit
 pub record SizesOf (c : List ℕ) (s : Sizes) : Type 0 where

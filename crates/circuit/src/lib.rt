@@ -5,9 +5,9 @@ ghost use Prim.Native.Nat.{_+_, _*_, _<_, _≤_};
 ghost use lib.ListN.{length, set};
 ghost use Rattle.lists.specs.Scan.{countBelow, select};
 ghost use Rattle.lists.specs.Field.{word16};
-ghost use Rattle.model.specs.Inputs.{N, kind, pinCount, outputMark, spareByte, pinLine, flipFlops, outputLines, faultAt};
+ghost use Rattle.model.specs.Inputs.{N, kind, pinCount, outputMark, spareByte, pinLine, isGate, flipFlops, outputLines, faultAt};
 ghost use Rattle.model.specs.Accepted.{ValidCircuit};
-ghost use Rattle.circuit.specs.Table.{SizesOf, FaultOf, Listed, byteIsOne};
+ghost use Rattle.circuit.specs.Table.{SizesOf, FaultOf, Listed, byteIsOne, pinRead, pinNumber, PinTable};
 
 // N, I, F and O.
 pub struct Sizes {
@@ -27,6 +27,12 @@ pub struct Fault {
 // A byte's number in full width.
 pub fn wide(x: u8) -> usize
     ensures { λ r. ⌜ (r ≡ x) × (r < 256) ⌝ }
+{
+    x as usize
+}
+
+pub fn wide_number(x: u16) -> usize
+    ensures { λ r. ⌜ r ≡ x ⌝ }
 {
     x as usize
 }
@@ -162,4 +168,40 @@ pub fn list_outputs(c: &[u8], lines: usize, table: &mut [usize])
     ensures { λ _. ⌜ Listed (outputLines (now (c .entry))) (now (table .exit)) ⌝ }
 {
     list_lines(c, lines, 2, table);
+}
+
+// Pin p, where a gate has so many, and else pin 1.
+fn pin_read(count: usize, p: usize) -> usize
+    ensures { λ r. ⌜ r ≡ pinRead count p ⌝ }
+{
+    if p <= count {
+        return p;
+    }
+    1
+}
+
+// The number by which pin p, 1 to 4, of gate n is read; 0 for a line that is no gate.
+fn pin_number(c: &[u8], n: usize, p: usize) -> u16
+    requires { ⌜ (ValidCircuit (now c)) × (n < N (now c)) × (1 ≤ p) × (p ≤ 4) ⌝ }
+    ensures { λ r. ⌜ (isGate (now (c .entry)) n ≡ true → r ≡ pinNumber (now (c .entry)) n p) ⌝ }
+{
+    let k = kind_of(c, n);
+    if k < 2 {
+        return 0;
+    }
+    let pin = pin_read(pins_of(c, n), p);
+    let number = 2 * pin_of(c, n, pin) + one_if(k / 2 == 3);
+    number as u16
+}
+
+// The pins of all gates, as they are read.
+pub fn list_pins(c: &[u8], lines: usize, table: &mut [u16])
+    requires { ⌜ (ValidCircuit (now c)) × (lines ≡ N (now c)) × (4 * lines ≤ length (now table)) ⌝ }
+    ensures { λ _. ⌜ PinTable (now (c .entry)) (now (table .exit)) ⌝ }
+{
+    let mut e: usize = 0;
+    while e < 4 * lines {
+        table[e] = pin_number(c, e / 4, e % 4 + 1);
+        e += 1;
+    }
 }

@@ -1,6 +1,7 @@
 -- What the calls return where an input is accepted and where it is not.
 use mathlib.Core.Path.{_≡_}
 use Prim.Native.Nat.{ℕ, _*_, _/_, _<_, _≤_}
+use mathlib.Core.Bool.{true, _&&_}
 use mathlib.Core.List.{List}
 use mathlib.Core.Option.{none, some}
 use lib.ListN.{length}
@@ -43,7 +44,7 @@ pub given-lane : (fs hits masks : List ℕ) → Given fs 0 (length fs / 4) hits 
 unfolding faultCount
 given-lane fs hits masks g j h = g .lanes j h
 
-pub opposed-plain : (c t free : List ℕ) (f : Fault) (j x units : ℕ) → units ≡ L c t
-    → bit j x ≡ anyBelow (λ u. someOppose (rowOf (O c) free u) (outputsAt c t f (powerUp c) u)) units → bit j x ≡ opposed c t free f
+pub opposed-plain : (c t free : List ℕ) (f : Fault) (j x wanted units : ℕ) → units ≡ L c t → bit j wanted ≡ true
+    → bit j x ≡ (bit j wanted && anyBelow (λ u. someOppose (rowOf (O c) free u) (outputsAt c t f (powerUp c) u)) units) → bit j x ≡ opposed c t free f
 unfolding opposed plainOutputs
-opposed-plain c t free f j x units e h = rw e at h
+opposed-plain c t free f j x wanted units e w h = rw (w, e) at h

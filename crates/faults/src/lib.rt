@@ -18,7 +18,7 @@ pub fn give_all(hits: &mut [u8], masks: &mut [u64], line: usize, pin: usize, stu
         × ((t : ℕ) (f : Fault) → t < 64 → f .line ≡ line → f .pin ≡ pin → f .value ≡ stuck → Stuck t (now (hits .exit)) (now (masks .exit)) f) ⌝ }
 {
     hits[line] = 1;
-    unit::put_lanes(masks, 5 + pin, Lanes::all(stuck));
+    lanes::store(masks, 5 + pin, Lanes::all(stuck));
 }
 
 pub fn take_all(hits: &mut [u8], masks: &mut [u64], line: usize, pin: usize)
@@ -26,7 +26,7 @@ pub fn take_all(hits: &mut [u8], masks: &mut [u64], line: usize, pin: usize)
     ensures { λ _. ⌜ Blank (now (hits .exit)) (now (masks .exit)) ⌝ }
 {
     hits[line] = 0;
-    unit::put_lanes(masks, 5 + pin, Lanes::X);
+    lanes::store(masks, 5 + pin, Lanes::X);
 }
 
 // One lane more, t, with a fault of its own; its line has a row already, or gets row t + 1.
@@ -40,8 +40,8 @@ pub fn give(hits: &mut [u8], masks: &mut [u64], t: usize, line: usize, pin: usiz
         hits[line] = (t + 1) as u8;
     }
     let at = 5 * circuit::wide(hits[line]) + pin;
-    let x = unit::lanes_at(masks, at);
-    unit::put_lanes(masks, at, x.with(t, stuck));
+    let x = lanes::read(masks, at);
+    lanes::store(masks, at, x.with(t, stuck));
 }
 
 // The line that fault j of the list names.

@@ -1,12 +1,12 @@
 -- The bits of AND, OR and XOR of words, and of the words with all bits equal.
-use mathlib.Core.Path.{_≡_, refl}
+use mathlib.Core.Path.{_≡_, refl, ap, _∙_}
 use mathlib.Core.Bool.{Bool, true, false, _&&_, _||_, not}
 use Prim.Native.Nat.{ℕ, zero, suc, _+_, _*_, _/_, _%_, _^_, _<_, min, max}
 use native.Mathlib.Omega.{arith}
 use native.Mathlib.Decide.{decLe}
 use native.Mathlib.Nat.{zero-div}
 use lib.Dec.{eqb}
-use lib.Bits.{bitAnd, bitOr, bitXor, differ, and-shr, or-shr, xor-shr, and-step, or-step, xor-step}
+use lib.Bits.{bitAnd, bitOr, bitXor, differ, and-shr, or-shr, xor-shr, and-step, or-step, xor-step, xor-zero-r}
 use Rattle.lanes.specs.Lane.{bit}
 
 low : (q r : ℕ) → r < 2 → (q * 2 + r) % 2 ≡ r
@@ -99,3 +99,16 @@ unfolding bit every same
 bit-one s t h g =
     same-eq _ _ (every-at (λ t. same (bit s (1 * 2 ^ t % 0x10000000000000000)) (eqb s t)) 64 t
     (every-at (λ s. every (λ t. same (bit s (1 * 2 ^ t % 0x10000000000000000)) (eqb s t)) 64) 64 s refl h) g)
+
+-- ---- the other number of a pair
+xor-one : (x : ℕ) → bitXor x 1 ≡ x / 2 * 2 + differ (x % 2) 1
+xor-one x = xor-step x 1 ∙ ap (λ h. h * 2 + differ (x % 2) 1) (xor-zero-r (x / 2))
+
+pub other-odd : (x m : ℕ) → x ≡ 2 * m → bitXor x 1 ≡ 2 * m + 1
+other-odd x m e = let r : x % 2 ≡ 0 = omega arith in xor-one x ∙ rw r (omega arith)
+
+pub other-even : (x m : ℕ) → x ≡ 2 * m + 1 → bitXor x 1 ≡ 2 * m
+other-even x m e = let r : x % 2 ≡ 1 = omega arith in xor-one x ∙ rw r (omega arith)
+
+pub other-near : (x : ℕ) → bitXor x 1 < 2 * (x / 2 + 1)
+other-near x = rw (xor-one x) (omega (arith, digit-xor (x % 2) 1 (half x) (omega arith) .0))

@@ -11,23 +11,23 @@ use lib.ListN.{getD, length, set, length-set, length-append, List·getD-append}
 use lib.Seq.{getD-at, getD-set-same, getD-set-other}
 use lib.Bits.{bitAnd, bitOr, bitXor}
 use Rattle.lists.proofs.Tests.{by-test, or-false}
-use Rattle.model.specs.Values.{invert, andPair, xorPair, andOf, orOf, invertAll, xorOf, evenGate, opposes}
-use Rattle.lanes.specs.Lane.{bit, is0, is1, Shows, Lane}
-use Rattle.lanes.proofs.Bits.{bit-and, bit-or, bit-xor, bit-none, bit-all, bit-one, xorB}
+use Rattle.model.specs.Values.{invert, andPair, xorPair, andOf, orOf, invertAll, xorOf, evenGate, invertIf, opposes}
+use Rattle.lanes.specs.Lane.{bit, is0, is1, Shows, At, Lane}
+use Rattle.lanes.proofs.Bits.{bit-and, bit-or, bit-xor, bit-none, bit-all, bit-one, xorB, other-odd, other-even}
 
-is0-inv : (v : ℕ) → is0 (invert v) ≡ is1 v
+pub is0-inv : (v : ℕ) → is0 (invert v) ≡ is1 v
 unfolding is0 is1 invert
 is0-inv zero = refl
 is0-inv (suc zero) = refl
 is0-inv (suc (suc v)) = refl
 
-is1-inv : (v : ℕ) → is1 (invert v) ≡ is0 v
+pub is1-inv : (v : ℕ) → is1 (invert v) ≡ is0 v
 unfolding is0 is1 invert
 is1-inv zero = refl
 is1-inv (suc zero) = refl
 is1-inv (suc (suc v)) = refl
 
-is-and : (v w : ℕ) → ((is0 v || is0 w) ≡ is0 (andPair v w)) × ((is1 v && is1 w) ≡ is1 (andPair v w))
+pub is-and : (v w : ℕ) → ((is0 v || is0 w) ≡ is0 (andPair v w)) × ((is1 v && is1 w) ≡ is1 (andPair v w))
 unfolding is0 is1 andPair
 is-and zero w = (refl, refl)
 is-and (suc zero) zero = (refl, refl)
@@ -117,7 +117,7 @@ shows-stuck t z o v a b hit s l m h = record {
 
 -- one place's words are stored
 module _ (t : ℕ) (ws vs : List ℕ) where
-  pub lane-at : (m : ℕ) → Lane t ws vs → m < length vs → Shows t (getD ws (2 * m) 0) (getD ws (2 * m + 1) 0) (getD vs m 2)
+  pub lane-at : (m : ℕ) → Lane t ws vs → m < length vs → At t ws m (getD vs m 2)
   unfolding Lane
   lane-at m h l = h m l
 
@@ -145,6 +145,12 @@ module _ (t : ℕ) (ws vs : List ℕ) where
   pub lane-none : length vs ≡ 0 → Lane t ws vs
   unfolding Lane
   lane-none e m h = absurd (let z : ⊥ = omega arith in z)
+
+-- the two words of a place, read in either order
+pub shows-turned : (t : ℕ) (ws : List ℕ) (x m v : ℕ) (turned : Bool) → x ≡ 2 * m + cond turned 1 0 → At t ws m v → Shows t (getD ws x 0) (getD ws (bitXor x 1) 0) (invertIf turned v)
+unfolding invertIf
+shows-turned t ws x m v true e h = rw (other-even x m e, e) (shows-inv t _ _ v h)
+shows-turned t ws x m v false e h = let f : x ≡ 2 * m = omega arith in rw (other-odd x m f, f) h
 
 -- the halves of the kinds: one pin alone, and one more
 module _ (t z o v : ℕ) (h : Shows t z o v) where

@@ -4,7 +4,7 @@ use mathlib.Core.Path.{_≡_}
 use mathlib.Core.Bool.{Bool, true, false}
 use mathlib.Core.List.{List}
 use lib.Dec.{eqb}
-use lib.ListN.{getD, length}
+use lib.ListN.{getD, length, set}
 use Rattle.model.specs.Values.{X}
 use Rattle.lanes.specs.declared.Lanes.{Lanes}
 
@@ -29,10 +29,18 @@ pub record Shows (t z o v : ℕ) : Type 0 where
 abbrev pub Holds : ℕ → Lanes → ℕ → Type 0
 Holds t x v = Shows t (x .zeros) (x .ones) v
 
--- lane t of a list of words, two to a place, holds the values vs at its first places
-unfoldable pub Lane : ℕ → List ℕ → List ℕ → Type 0
-Lane t words vs = (m : ℕ) → m < length vs → Shows t (getD words (2 * m) 0) (getD words (2 * m + 1) 0) (getD vs m X)
+-- Lane t holds v at place m of a list of words, two to a place. This definition alone says how words are laid out.
+abbrev pub At : ℕ → List ℕ → ℕ → ℕ → Type 0
+At t words m v = Shows t (getD words (2 * m) 0) (getD words (2 * m + 1) 0) v
+
+-- the list with x at place m
+abbrev pub stored : List ℕ → ℕ → Lanes → List ℕ
+stored words m x = set (set words (2 * m) (x .zeros)) (2 * m + 1) (x .ones)
 
 -- the list has words for so many places
 abbrev pub Room : ℕ → List ℕ → Type 0
 Room places words = 2 * places ≤ length words
+
+-- lane t of a list of words holds the values vs at its first places
+unfoldable pub Lane : ℕ → List ℕ → List ℕ → Type 0
+Lane t words vs = (m : ℕ) → m < length vs → At t words m (getD vs m X)

@@ -3,10 +3,10 @@
 ghost use mathlib.Core.Bool.{Bool, cond};
 ghost use mathlib.Core.List.{List, _∷_};
 ghost use mathlib.Core.Path.{_≡_};
-ghost use Prim.Native.Nat.{ℕ, _<_, _≤_, _/_, _%_};
+ghost use Prim.Native.Nat.{ℕ, _+_, _*_, _<_, _≤_, _/_, _%_};
 ghost use lib.Dec.{eqb};
 ghost use Rattle.model.specs.Values.{X, invert, andPair, xorPair, orOf, evenGate, invertIf, inverts, opposes};
-ghost use Rattle.lanes.specs.Lane.{Holds, bit};
+ghost use Rattle.lanes.specs.Lane.{Holds, bit, At, Room, stored};
 
 pub struct Lanes {
     pub zeros: u64,
@@ -73,7 +73,7 @@ impl Lanes {
         }
     }
 
-    // By the gate's kind: one pin more in front of the others, and the inversion at the end.
+    // By the gate's kind, before it inverts: one pin more in front of the others.
     pub fn combine(self, kind: u8, rest: Lanes) -> Lanes
         requires { ⌜ (2 ≤ kind) × (kind ≤ 9) ⌝ }
         ensures { λ r. ⌜ ((t v : ℕ) (ws : List ℕ) → Holds t self v → Holds t rest (evenGate (kind / 2) ws) → Holds t r (evenGate (kind / 2) (v ∷ ws))) ⌝ }
@@ -86,6 +86,7 @@ impl Lanes {
         }
     }
 
+    // NOT, NAND, NOR and XNOR invert.
     pub fn finish(self, kind: u8) -> Lanes
         ensures { λ r. ⌜ ((t v : ℕ) → Holds t self v → Holds t r (invertIf (inverts kind) v)) ⌝ }
     {
@@ -146,5 +147,36 @@ impl Lanes {
             return 1;
         }
         2
+    }
+}
+
+// The lanes at place m of a list.
+pub fn read(words: &[u64], m: usize) -> Lanes
+    requires { ⌜ Room (m + 1) (now words) ⌝ }
+    ensures { λ r. ⌜ ((t v : ℕ) → At t (now (words .entry)) m v → Holds t r v) ⌝ }
+{
+    Lanes {
+        zeros: words[2 * m],
+        ones: words[2 * m + 1],
+    }
+}
+
+pub fn store(words: &mut [u64], m: usize, x: Lanes)
+    requires { ⌜ Room (m + 1) (now words) ⌝ }
+    ensures { λ _. ⌜ now (words .exit) ≡ stored (now (words .entry)) m x ⌝ }
+{
+    words[2 * m] = x.zeros;
+    words[2 * m + 1] = x.ones;
+}
+
+// The lanes at place m for the number 2 m, their inverse for 2 m + 1: the same two words, in the other order.
+pub fn read_turned(words: &[u64], number: usize) -> Lanes
+    requires { ⌜ Room (number / 2 + 1) (now words) ⌝ }
+    ensures { λ r. ⌜ ((t m v : ℕ) (turned : Bool) → number ≡ 2 * m + cond turned 1 0 → At t (now (words .entry)) m v → Holds t r (invertIf turned v)) ⌝ }
+{
+    let other = number ^ 1;
+    Lanes {
+        zeros: words[number],
+        ones: words[other],
     }
 }

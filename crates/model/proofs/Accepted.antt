@@ -9,7 +9,7 @@ use lib.Dec.{eqb, leb, ltb}
 use native.Mathlib.Omega.{arith}
 use native.Mathlib.Decide.{decLe}
 use native.Mathlib.Nat.{div-add-mod', zero-mul}
-use borrow.Author.Tests.{eqb-true, leb-true, leb-false, ltb-true, ltb-false, not-false, ne-eqb}
+use borrow.Author.Tests.{eqb-true, leb-true, leb-false, ltb-true, ltb-false, not-false, ne-eqb, le-leb}
 use Rattle.lists.specs.Scan.{firstAnswer}
 use Rattle.model.specs.Inputs.{N, kind, pinCount, pinLine, isFlipFlop, isGate, I, F, O, L, Fault, faultCount, faultAt}
 use Rattle.model.specs.Refusals.{refuse, row1, pinsFit, strayBytes, misnamed, misnames, rows2to5, row6, circuitRows, row7, row8, row9, faultFits, row10, row11, row12, row13, row14, gradeRefusal, chooseRefusal}
@@ -51,6 +51,15 @@ pins-cases false false p h e = omega (arith, leb-true 2 p (and-left _ _ e))
 has-pin : (k p : ℕ) → pinsFit k p ≡ true → 1 ≤ k → 0 < p
 unfolding pinsFit
 has-pin k p e h = pins-cases (eqb k 0) (leb k 3) p (ne-eqb k 0 (λ q. (let z : ⊥ = omega arith in z))) e
+
+one-case : (x y : Bool) (p : ℕ) → y ≡ true → cond x (eqb p 0) (cond y (eqb p 1) (leb 2 p && leb p 4)) ≡ true → p ≤ 1
+one-case true y p h e = omega (arith, eqb-true p 0 e)
+one-case false true p h e = omega (arith, eqb-true p 1 e)
+one-case false false p h e = absurd (true≢false (sym h))
+
+one-pin : (k p : ℕ) → pinsFit k p ≡ true → k ≤ 3 → p ≤ 1
+unfolding pinsFit
+one-pin k p e h = one-case (eqb k 0) (leb k 3) p (le-leb k 3 h) e
 
 named-at : (c : List ℕ) (n i : ℕ) → misnames c n ≡ false → i < pinCount c n → leb (cond (isGate c n) n (N c)) (pinLine c n (i + 1)) ≡ false
 unfolding misnames misnamed
@@ -103,6 +112,7 @@ validCircuit c e =
       lines = line-limit c short;
       kinds = λ n h. at n h .low;
       pinned = λ n h g. has-pin _ _ (at n h .count) (omega (arith, gate-kind c n g));
+      single = λ n h k. one-pin _ _ (at n h .count) k;
       few = λ n h. few-pins _ _ (at n h .count);
       lower = λ n i h g k.
           let next : i + 1 ≡ suc i = omega arith in

@@ -13,6 +13,7 @@ pub record ValidCircuit (c : List ℕ) : Type 0 where
   pub lines : N c ≤ 4096
   pub kinds : (n : ℕ) → n < N c → kind c n ≤ 9
   pub pinned : (n : ℕ) → n < N c → isGate c n ≡ true → 0 < pinCount c n
+  pub single : (n : ℕ) → n < N c → kind c n ≤ 3 → pinCount c n ≤ 1
   pub few : (n : ℕ) → n < N c → pinCount c n ≤ 4
   pub lower : (n i : ℕ) → n < N c → isGate c n ≡ true → i < pinCount c n → pinLine c n (suc i) < n
   pub fed : (n : ℕ) → n < N c → isFlipFlop c n ≡ true → pinLine c n 1 < N c

@@ -1,7 +1,7 @@
 -- What one turn of each loop adds.
 use mathlib.Core.Path.{_≡_, refl, sym, ap, _∙_}
 use Prim.Native.Nat.{ℕ, zero, suc, _+_, _-_, _*_, _<_, _≤_}
-use mathlib.Core.Bool.{Bool, true, false, _&&_, _||_}
+use mathlib.Core.Bool.{Bool, true, false, _&&_, _||_, and-comm}
 use mathlib.Core.List.{List, [], _∷_, _++_, append-assoc}
 use lib.Bits.{bitAnd, bitOr}
 use lib.ListN.{getD, length, set, take, drop, length-append, length-drop, length-map, getD-replicate, length-replicate, List·getD-map}
@@ -11,7 +11,7 @@ use native.Mathlib.Omega.{arith}
 use native.Mathlib.Nat.{mul-le-mul, mul-le-mul-left, mul-suc, mul-comm}
 use Rattle.lists.specs.Scan.{anyBelow, gather}
 use Rattle.lists.proofs.Scan.{All, all-at, select-all, length-select, length-gather, gather-turn, getD-any, anyBelow-more, countBelow-bound}
-use Rattle.lists.proofs.Tests.{and-left, or-false, or-assoc}
+use Rattle.lists.proofs.Tests.{and-left, by-test, or-false, or-assoc}
 use Rattle.model.specs.Inputs.{N, I, F, O, L, isInput, isOutput, outputLines, inputsAt, Fault}
 use Rattle.model.specs.Accepted.{ValidCircuit, ValidTest, ThreeValued}
 use Rattle.model.specs.Values.{X, opposes, someOppose}
@@ -141,12 +141,16 @@ module _ (lane : ℕ) (P : ℕ → Bool) where
   unfolding anyBelow
   ever-more x y u h g = bit-or lane x y ∙ rw (add-one u, h, g)
 
-  -- a wanted lane opposes already
-  pub ever-stop : (x wanted u units : ℕ) → bit lane x ≡ anyBelow P (u + 1) → u < units → bitAnd x wanted ≡ wanted → bit lane wanted ≡ true → bit lane x ≡ anyBelow P units
-  ever-stop x wanted u units h l e w =
-      let both : (bit lane x && bit lane wanted) ≡ true = sym (bit-and lane x wanted) ∙ ap (bit lane) e ∙ w in
-      let here : bit lane x ≡ true = and-left _ _ both in
-      here ∙ sym (anyBelow-more P (u + 1) units (sym h ∙ here) (omega arith))
+  -- every wanted lane opposes already
+  pub ever-stop : (x wanted u units : ℕ) → bit lane x ≡ anyBelow P (u + 1) → u < units → bitAnd x wanted ≡ wanted → bit lane wanted ≡ (bit lane wanted && anyBelow P units)
+  ever-stop x wanted u units h l e = by-test (bit lane wanted)
+      (λ w.
+      let here : bit lane x ≡ true = and-left (bit lane x) (bit lane wanted) (sym (bit-and lane x wanted) ∙ ap (bit lane) e ∙ w) in
+      rw (w, anyBelow-more P (u + 1) units (sym h ∙ here) (omega arith)))
+      (λ w. rw w)
+
+  pub ever-all : (x wanted u units : ℕ) → bit lane x ≡ anyBelow P u → u ≡ units → bit lane (bitAnd x wanted) ≡ (bit lane wanted && anyBelow P units)
+  ever-all x wanted u units h e = bit-and lane x wanted ∙ rw (h, e) (and-comm (anyBelow P units) (bit lane wanted))
 
 -- ---- every flip-flop at X
 pub length-powerUp : (c : List ℕ) → length (powerUp c) ≡ F c

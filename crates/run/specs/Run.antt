@@ -6,16 +6,17 @@ use Rattle.model.specs.Inputs.{N, F, flipFlops, outputLines, Fault}
 use Rattle.model.specs.Accepted.{ValidCircuit, ValidTest}
 use Rattle.model.specs.Simulation.{stateAt, outputsAt}
 use Rattle.lanes.specs.Lane.{Room}
-use Rattle.circuit.specs.Table.{Listed}
+use Rattle.circuit.specs.Table.{Listed, PinTable}
 use Rattle.job.specs.Job.{JobOf}
 use Rattle.job.specs.declared.Job.{Job}
 use Rattle.unit.specs.Unit.{MaskRoom}
 
--- What a run of a job asks for: circuit, test and sizes, the tables of flip-flops and outputs, and room for faults, lines and states.
-pub record Runnable (c t : List ℕ) (job : Job) (flops outs hits masks words state : List ℕ) : Type 0 where
+-- What a run of a job asks for: circuit, test and sizes, the tables of pins, flip-flops and outputs, and room for faults, lines and states.
+pub record Runnable (c t : List ℕ) (job : Job) (table flops outs hits masks words state : List ℕ) : Type 0 where
   pub circuit : ValidCircuit c
   pub test : ValidTest c t
   pub sizes : JobOf c t job
+  pub pinTable : PinTable c table
   pub flopTable : Listed (flipFlops c) flops
   pub outputTable : Listed (outputLines c) outs
   pub hitRoom : N c ≤ length hits

@@ -1,5 +1,5 @@
 // Runs of a test in 64 lanes, unit by unit: what lane 0 shows, as tables in a lent area, and the lanes in which an output opposes.
-ghost use mathlib.Core.Bool.{true};
+ghost use mathlib.Core.Bool.{_&&_};
 ghost use mathlib.Core.List.{List, _++_};
 ghost use mathlib.Core.Path.{_≡_};
 ghost use Prim.Native.Nat.{ℕ, _+_, _*_, _≤_};
@@ -11,7 +11,7 @@ ghost use Rattle.model.specs.Accepted.{ValidCircuit, ThreeValued};
 ghost use Rattle.model.specs.Values.{someOppose};
 ghost use Rattle.model.specs.Simulation.{powerUp, lineValues, outputs, outputsAt};
 ghost use Rattle.lanes.specs.Lane.{bit, Lane, Room};
-ghost use Rattle.circuit.specs.Table.{Listed};
+ghost use Rattle.circuit.specs.Table.{Listed, PinTable};
 ghost use Rattle.unit.specs.Unit.{Stuck, MaskRoom};
 ghost use Rattle.run.specs.Run.{Runnable, rowOf, runRow};
 use job::Job;
@@ -20,6 +20,7 @@ use lanes::Lanes;
 // The values of all lines at unit u of a test, from the state there.
 pub fn values_at(
     c: &[u8],
+    table: &[u16],
     lines: usize,
     inputs: usize,
     t: &[u8],
@@ -29,14 +30,14 @@ pub fn values_at(
     masks: &[u64],
     words: &mut [u64],
 )
-    requires { ⌜ (ValidCircuit (now c)) × (lines ≡ N (now c)) × (inputs ≡ I (now c)) × (inputs * u + inputs ≤ length (now t)) × (lines ≤ length (now hits))
+    requires { ⌜ (ValidCircuit (now c)) × (PinTable (now c) (now table)) × (lines ≡ N (now c)) × (inputs ≡ I (now c)) × (inputs * u + inputs ≤ length (now t)) × (lines ≤ length (now hits))
         × (MaskRoom (now masks)) × (Room lines (now words)) × (Room (F (now c)) (now state)) ⌝ }
     ensures { λ _. ⌜ ((lane : ℕ) (f : Fault) (st : List ℕ) → Stuck lane (now (hits .entry)) (now (masks .entry)) f → Lane lane (now (state .entry)) st → length st ≡ F (now (c .entry))
         → Lane lane (now (words .exit)) (lineValues (now (c .entry)) f (inputsAt (now (c .entry)) (now (t .entry)) u) st)) ⌝ }
 {
     let at = inputs * u;
     let to = at + inputs;
-    unit::simulate_unit(c, lines, &t[at..to], state, hits, masks, words);
+    unit::simulate_unit(c, table, lines, &t[at..to], state, hits, masks, words);
 }
 
 // Every flip-flop at X, in all lanes.
@@ -46,33 +47,35 @@ pub fn power_up(c: &[u8], count: usize, state: &mut [u64])
 {
     let mut s: usize = 0;
     while s < count {
-        unit::put_lanes(state, s, Lanes::X);
+        lanes::store(state, s, Lanes::X);
         s += 1;
     }
 }
 
-// What the outputs, whose lines the table gives, show in lane 0, one byte each, after the bytes that stand before `place`.
+// What the outputs, whose lines the table gives, show in lane 0, one byte each, from `place` on.
 pub fn write_outputs(
     c: &[u8],
     outs: &[usize],
     count: usize,
+    hits: &[u8],
+    masks: &[u64],
     words: &[u64],
     area: &mut [u8],
     place: usize,
 )
     requires { ⌜ (ValidCircuit (now c)) × (Listed (outputLines (now c)) (now outs)) × (count ≡ O (now c)) × (Room (N (now c)) (now words)) × (place + count ≤ length (now area)) ⌝ }
-    ensures { λ _. ⌜ ((f : Fault) (vs done old : List ℕ) → Lane 0 (now (words .entry)) vs → length vs ≡ N (now (c .entry)) → ThreeValued vs
+    ensures { λ _. ⌜ ((f : Fault) (vs done old : List ℕ) → Stuck 0 (now (hits .entry)) (now (masks .entry)) f → Lane 0 (now (words .entry)) vs → length vs ≡ N (now (c .entry)) → ThreeValued vs
         → now (area .entry) ≡ overwritten done old → length done ≡ place → now (area .exit) ≡ overwritten (done ++ outputs (now (c .entry)) f vs) old) ⌝ }
 {
     let mut o: usize = 0;
     while o < count {
-        let x = unit::lanes_at(words, outs[o]);
+        let x = lanes::read(words, outs[o]);
         area[place + o] = x.lane(0);
         o += 1;
     }
 }
 
-// The first so many bits of the state in lane 0, one byte each, after the bytes that stand before `place`.
+// The first so many bits of the state in lane 0, one byte each, from `place` on.
 pub fn write_state(state: &[u64], count: usize, area: &mut [u8], place: usize)
     requires { ⌜ (Room count (now state)) × (place + count ≤ length (now area)) ⌝ }
     ensures { λ _. ⌜ ((st done old : List ℕ) → Lane 0 (now (state .entry)) st → count ≤ length st → ThreeValued st
@@ -80,7 +83,7 @@ pub fn write_state(state: &[u64], count: usize, area: &mut [u8], place: usize)
 {
     let mut s: usize = 0;
     while s < count {
-        let x = unit::lanes_at(state, s);
+        let x = lanes::read(state, s);
         area[place + s] = x.lane(0);
         s += 1;
     }
@@ -92,6 +95,7 @@ pub fn write_rows(
     job: Job,
     t: &[u8],
     bits: usize,
+    table: &[u16],
     flops: &[usize],
     outs: &[usize],
     hits: &[u8],
@@ -100,7 +104,7 @@ pub fn write_rows(
     state: &mut [u64],
     area: &mut [u8],
 )
-    requires { ⌜ (Runnable (now c) (now t) job (now flops) (now outs) (now hits) (now masks) (now words) (now state)) × (bits ≤ F (now c)) × (L (now c) (now t) * (O (now c) + bits) ≤ length (now area)) ⌝ }
+    requires { ⌜ (Runnable (now c) (now t) job (now table) (now flops) (now outs) (now hits) (now masks) (now words) (now state)) × (bits ≤ F (now c)) × (L (now c) (now t) * (O (now c) + bits) ≤ length (now area)) ⌝ }
     ensures { λ _. ⌜ ((f : Fault) (st : List ℕ) → Stuck 0 (now (hits .entry)) (now (masks .entry)) f → Lane 0 (now (state .entry)) st → length st ≡ F (now (c .entry)) → ThreeValued st
         → now (area .exit) ≡ overwritten (gather (λ u. runRow (now (c .entry)) (now (t .entry)) f st bits u) (L (now (c .entry)) (now (t .entry)))) (now (area .entry))) ⌝ }
 {
@@ -108,8 +112,19 @@ pub fn write_rows(
     let mut u: usize = 0;
     while u < job.units {
         let place = size * u;
-        values_at(c, job.lines, job.inputs, t, u, state, hits, masks, words);
-        write_outputs(c, outs, job.outputs, words, area, place);
+        values_at(
+            c,
+            table,
+            job.lines,
+            job.inputs,
+            t,
+            u,
+            state,
+            hits,
+            masks,
+            words,
+        );
+        write_outputs(c, outs, job.outputs, hits, masks, words, area, place);
         write_state(state, bits, area, place + job.outputs);
         unit::next_state(c, flops, job.flops, hits, masks, words, state);
         u += 1;
@@ -117,15 +132,23 @@ pub fn write_rows(
 }
 
 // The lanes in which some output opposes the response that the row gives, a byte an output.
-pub fn opposing(c: &[u8], outs: &[usize], count: usize, words: &[u64], row: &[u8]) -> u64
+pub fn opposing(
+    c: &[u8],
+    outs: &[usize],
+    count: usize,
+    hits: &[u8],
+    masks: &[u64],
+    words: &[u64],
+    row: &[u8],
+) -> u64
     requires { ⌜ (ValidCircuit (now c)) × (Listed (outputLines (now c)) (now outs)) × (count ≡ O (now c)) × (Room (N (now c)) (now words)) × (count ≤ length (now row)) ⌝ }
-    ensures { λ r. ⌜ ((lane : ℕ) (f : Fault) (vs : List ℕ) → Lane lane (now (words .entry)) vs → length vs ≡ N (now (c .entry))
+    ensures { λ r. ⌜ ((lane : ℕ) (f : Fault) (vs : List ℕ) → Stuck lane (now (hits .entry)) (now (masks .entry)) f → Lane lane (now (words .entry)) vs → length vs ≡ N (now (c .entry))
         → bit lane r ≡ someOppose (now (row .entry)) (outputs (now (c .entry)) f vs)) ⌝ }
 {
     let mut found: u64 = 0;
     let mut o: usize = 0;
     while o < count {
-        let x = unit::lanes_at(words, outs[o]);
+        let x = lanes::read(words, outs[o]);
         found = found | x.opposing(row[o]);
         o += 1;
     }
@@ -141,6 +164,7 @@ pub fn opposing_ever(
     units: usize,
     free: &[u8],
     wanted: u64,
+    table: &[u16],
     flops: &[usize],
     outs: &[usize],
     hits: &[u8],
@@ -148,23 +172,33 @@ pub fn opposing_ever(
     words: &mut [u64],
     state: &mut [u64],
 ) -> u64
-    requires { ⌜ (Runnable (now c) (now t) job (now flops) (now outs) (now hits) (now masks) (now words) (now state)) × (units ≤ L (now c) (now t)) × (units * O (now c) ≤ length (now free)) ⌝ }
-    ensures { λ r. ⌜ ((lane : ℕ) (f : Fault) (st : List ℕ) → bit lane wanted ≡ true → Stuck lane (now (hits .entry)) (now (masks .entry)) f → Lane lane (now (state .entry)) st
-        → length st ≡ F (now (c .entry))
-        → bit lane r ≡ anyBelow (λ u. someOppose (rowOf (O (now (c .entry))) (now (free .entry)) u) (outputsAt (now (c .entry)) (now (t .entry)) f st u)) units) ⌝ }
+    requires { ⌜ (Runnable (now c) (now t) job (now table) (now flops) (now outs) (now hits) (now masks) (now words) (now state)) × (units ≤ L (now c) (now t)) × (units * O (now c) ≤ length (now free)) ⌝ }
+    ensures { λ r. ⌜ ((lane : ℕ) (f : Fault) (st : List ℕ) → Stuck lane (now (hits .entry)) (now (masks .entry)) f → Lane lane (now (state .entry)) st → length st ≡ F (now (c .entry))
+        → bit lane r ≡ bit lane wanted && anyBelow (λ u. someOppose (rowOf (O (now (c .entry))) (now (free .entry)) u) (outputsAt (now (c .entry)) (now (t .entry)) f st u)) units) ⌝ }
 {
     let mut found: u64 = 0;
     let mut u: usize = 0;
     while u < units {
         let at = job.outputs * u;
         let to = at + job.outputs;
-        values_at(c, job.lines, job.inputs, t, u, state, hits, masks, words);
-        found = found | opposing(c, outs, job.outputs, words, &free[at..to]);
+        values_at(
+            c,
+            table,
+            job.lines,
+            job.inputs,
+            t,
+            u,
+            state,
+            hits,
+            masks,
+            words,
+        );
+        found = found | opposing(c, outs, job.outputs, hits, masks, words, &free[at..to]);
         if found & wanted == wanted {
-            return found;
+            return wanted;
         }
         unit::next_state(c, flops, job.flops, hits, masks, words, state);
         u += 1;
     }
-    found
+    found & wanted
 }

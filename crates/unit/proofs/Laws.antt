@@ -5,7 +5,7 @@ use mathlib.Core.List.{List, [], _∷_, _++_, map}
 use Prim.Native.Nat.{ℕ, zero, suc, _+_, _*_, _-_, _/_, _<_, _≤_}
 use native.Mathlib.Omega.{arith}
 use native.Mathlib.Numerals.{add-one}
-use borrow.Author.Tests.{eq-eqb, ne-eqb, le-leb}
+use borrow.Author.Tests.{eq-eqb, ne-eqb}
 use lib.ListN.{length, getD, set, take, length-map, length-take}
 use lib.Seq.{take-length}
 use Rattle.lists.specs.Scan.{countBelow, tabulate}
@@ -15,15 +15,14 @@ use Rattle.model.specs.Accepted.{ValidCircuit}
 use Rattle.model.specs.Values.{X, evenGate, gate, invertIf, inverts}
 use Rattle.model.specs.Simulation.{isStuck, seen, pinSeen, pinsSeen, behind, valuesBelow, lineValues, nextState}
 use Rattle.model.proofs.Runs.{length-valuesBelow, length-flipFlops, flipFlopLine-holds}
-use Rattle.lanes.specs.Lane.{Shows, Lane}
+use Rattle.lanes.specs.Lane.{Shows, At, Lane}
 use Rattle.lanes.proofs.Laws.{lane-at, lane-add, lane-none}
 use Rattle.circuit.specs.Table.{Listed}
 use Rattle.unit.specs.Unit.{StuckAt, Stuck}
 
--- the words that were read at place m
-pub lane-read : (t : ℕ) (ws vs : List ℕ) (m z o i : ℕ) → Lane t ws vs → z ≡ getD ws (2 * m) 0 → o ≡ getD ws (2 * m + 1) 0 → m ≡ i → i < length vs
-    → Shows t z o (getD vs i X)
-lane-read t ws vs m z o i l ez eo e h = rw (ez, eo, e) (lane-at t ws vs i l h)
+-- the value at place m, which is place i
+pub lane-read : (t : ℕ) (ws vs : List ℕ) (m i : ℕ) → Lane t ws vs → m ≡ i → i < length vs → At t ws m (getD vs i X)
+lane-read t ws vs m i l e h = rw e (lane-at t ws vs i l h)
 
 -- ---- what is seen
 -- the row that was read of a line
@@ -36,7 +35,7 @@ module _ (t z o v : ℕ) (masks : List ℕ) (row : ℕ) (f : Fault) (n pin : ℕ
   seen-free e h = rw (s .free e pin) h
 
   pub seen-held : (row ≡ 0 → ⊥) → pin < 5
-      → ((hit : Bool) (w : ℕ) → w < 2 → Shows t (getD masks (2 * (5 * row + pin)) 0) (getD masks (2 * (5 * row + pin) + 1) 0) (cond hit w X) → Shows t z o (cond hit w v))
+      → ((hit : Bool) (w : ℕ) → w < 2 → At t masks (5 * row + pin) (cond hit w X) → Shows t z o (cond hit w v))
       → Shows t z o (seen f n pin v)
   unfolding seen
   seen-held g l h = h (isStuck f n pin) (f .value) (s .binary) (s .held g pin l)
@@ -129,15 +128,6 @@ module _ (c : List ℕ) (f : Fault) (vs : List ℕ) where
   pub next-all : (t : ℕ) (ws : List ℕ) (s : ℕ) → s ≡ F c → Lane t ws (nextOf s) → Lane t ws (nextState c f vs)
   unfolding nextOf nextState
   next-all t ws s e h = rw (e, ← length-flipFlops c, take-length) at h
-
--- ---- what a valid circuit gives at one line
-pub is-gate : (c : List ℕ) (n k : ℕ) → k ≡ kind c n → 2 ≤ k → isGate c n ≡ true
-unfolding isGate
-is-gate c n k e h = le-leb 2 (kind c n) (omega arith)
-
-pub lower-pin : (c : List ℕ) → ValidCircuit c → (n p : ℕ) → n < N c → isGate c n ≡ true → 1 ≤ p → p ≤ pinCount c n → pinLine c n p < n
-lower-pin c v n zero h g a b = absurd (let z : ⊥ = omega arith in z)
-lower-pin c v n (suc i) h g a b = v .lower n i h g b
 
 -- the flip-flop at place s of the table
 pub record FlopAt (c table : List ℕ) (s : ℕ) : Type 0 where

@@ -1,2 +1,3 @@
 -- Laws of a unit in one lane.
 pub mod Laws
+pub mod Plain

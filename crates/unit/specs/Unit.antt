@@ -7,7 +7,7 @@ use lib.ListN.{getD, length}
 use Rattle.model.specs.Inputs.{Fault}
 use Rattle.model.specs.Values.{X}
 use Rattle.model.specs.Simulation.{isStuck, seen}
-use Rattle.lanes.specs.Lane.{Shows, Room}
+use Rattle.lanes.specs.Lane.{At, Room}
 
 -- A row of five masks, for a line itself and its pins 1 to 4, says what is seen there in each lane if X stands behind; row 0 says nothing.
 -- In lane t the row holds what the fault f fixes at line n.
@@ -15,7 +15,7 @@ pub record StuckAt (t : ℕ) (masks : List ℕ) (row : ℕ) (f : Fault) (n : ℕ
   pub binary : f .value < 2
   pub free : row ≡ 0 → (pin : ℕ) → isStuck f n pin ≡ false
   pub held : (row ≡ 0 → ⊥) → (pin : ℕ) → pin < 5
-      → Shows t (getD masks (2 * (5 * row + pin)) 0) (getD masks (2 * (5 * row + pin) + 1) 0) (seen f n pin X)
+      → At t masks (5 * row + pin) (seen f n pin X)
 
 -- the list has 256 rows of masks
 abbrev pub MaskRoom : List ℕ → Type 0

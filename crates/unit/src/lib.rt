@@ -1,37 +1,18 @@
 // One time unit in 64 lanes, with a state and a fault of its own in each: the values of all lines, in line order, and the next state.
-// Words stand two to a place, known 0 and known 1.
 ghost use mathlib.Core.Path.{_≡_};
 ghost use mathlib.Core.List.{List};
-ghost use Prim.Native.Nat.{ℕ, _+_, _*_, _<_, _≤_};
-ghost use lib.ListN.{length, getD, set};
+ghost use mathlib.Core.Bool.{Bool, false, cond};
+ghost use Prim.Native.Nat.{ℕ, _+_, _*_, _/_, _<_, _≤_};
+ghost use lib.ListN.{length, getD};
 ghost use Rattle.lists.specs.Scan.{countBelow};
 ghost use Rattle.model.specs.Inputs.{N, kind, pinLine, isInput, isFlipFlop, I, F, flipFlops, Fault};
 ghost use Rattle.model.specs.Accepted.{ValidCircuit};
-ghost use Rattle.model.specs.Values.{gate};
-ghost use Rattle.model.specs.Simulation.{seen, pinSeen, pinsSeen, behind, lineValues, nextState};
-ghost use Rattle.lanes.specs.Lane.{Holds, Lane, Room};
-ghost use Rattle.circuit.specs.Table.{Listed};
+ghost use Rattle.model.specs.Values.{gate, invertIf};
+ghost use Rattle.model.specs.Simulation.{isStuck, seen, pinSeen, pinsSeen, behind, lineValues, nextState};
+ghost use Rattle.lanes.specs.Lane.{At, Holds, Lane, Room};
+ghost use Rattle.circuit.specs.Table.{Listed, PinTable};
 ghost use Rattle.unit.specs.Unit.{StuckAt, Stuck, MaskRoom};
 use lanes::Lanes;
-
-// The lanes at place m.
-pub fn lanes_at(words: &[u64], m: usize) -> Lanes
-    requires { ⌜ Room (m + 1) (now words) ⌝ }
-    ensures { λ r. ⌜ (r .zeros ≡ getD (now (words .entry)) (2 * m) 0) × (r .ones ≡ getD (now (words .entry)) (2 * m + 1) 0) ⌝ }
-{
-    Lanes {
-        zeros: words[2 * m],
-        ones: words[2 * m + 1],
-    }
-}
-
-pub fn put_lanes(words: &mut [u64], m: usize, x: Lanes)
-    requires { ⌜ Room (m + 1) (now words) ⌝ }
-    ensures { λ _. ⌜ now (words .exit) ≡ set (set (now (words .entry)) (2 * m) (x .zeros)) (2 * m + 1) (x .ones) ⌝ }
-{
-    words[2 * m] = x.zeros;
-    words[2 * m + 1] = x.ones;
-}
 
 // What is seen at a pin (0: the line itself) of a line with this row of masks, where x stands behind it.
 fn seen_at(masks: &[u64], row: usize, pin: usize, x: Lanes) -> Lanes
@@ -41,7 +22,7 @@ fn seen_at(masks: &[u64], row: usize, pin: usize, x: Lanes) -> Lanes
     if row == 0 {
         return x;
     }
-    x.stuck(lanes_at(masks, 5 * row + pin))
+    x.stuck(lanes::read(masks, 5 * row + pin))
 }
 
 // What pin p of line n sees.
@@ -51,7 +32,7 @@ fn pin_lanes(c: &[u8], masks: &[u64], words: &[u64], n: usize, p: usize, row: us
         → Holds t r (pinSeen (now (c .entry)) f vs n p)) ⌝ }
 {
     let m = circuit::pin_of(c, n, p);
-    seen_at(masks, row, p, lanes_at(words, m))
+    seen_at(masks, row, p, lanes::read(words, m))
 }
 
 // Gate n, of kind k.
@@ -78,13 +59,50 @@ fn gate_lanes(c: &[u8], masks: &[u64], words: &[u64], n: usize, k: u8, row: usiz
         .finish(k)
 }
 
-// With no fault at the gate, which is the rule, the literal row 0 lets the compiler drop every test of the row.
-fn any_gate(c: &[u8], masks: &[u64], words: &[u64], n: usize, k: u8, row: usize) -> Lanes
-    requires { ⌜ (ValidCircuit (now c)) × (n < N (now c)) × (k ≡ kind (now c) n) × (2 ≤ k) × (MaskRoom (now masks)) × (row < 256) × (Room n (now words)) ⌝ }
+// The lanes by which the table says that a gate's pin is read; e is its place there.
+fn table_lanes(table: &[u16], words: &[u64], e: usize) -> Lanes
+    requires { ⌜ (e < length (now table)) × (Room (getD (now table) e 0 / 2 + 1) (now words)) ⌝ }
+    ensures { λ r. ⌜ ((t m v : ℕ) (turned : Bool) → getD (now (table .entry)) e 0 ≡ 2 * m + cond turned 1 0 → At t (now (words .entry)) m v → Holds t r (invertIf turned v)) ⌝ }
+{
+    lanes::read_turned(words, circuit::wide_number(table[e]))
+}
+
+// Gate n with no fault at it, of a kind k up to 7. All are one AND of four pins, which needs no test of kind or pin count: OR is, by
+// De Morgan, the inverse of the AND of its inverted pins.
+fn and_gate(c: &[u8], table: &[u16], words: &[u64], n: usize, k: u8) -> Lanes
+    requires { ⌜ (ValidCircuit (now c)) × (n < N (now c)) × (k ≡ kind (now c) n) × (2 ≤ k) × (k ≤ 7) × (PinTable (now c) (now table)) × (Room n (now words)) ⌝ }
+    ensures { λ r. ⌜ ((t : ℕ) (f : Fault) (vs : List ℕ) → ((pin : ℕ) → isStuck f n pin ≡ false) → Lane t (now (words .entry)) vs → length vs ≡ n
+        → Holds t r (gate k (pinsSeen (now (c .entry)) f vs n))) ⌝ }
+{
+    let e = 4 * n;
+    let first = table_lanes(table, words, e);
+    let second = table_lanes(table, words, e + 1);
+    let third = table_lanes(table, words, e + 2);
+    let fourth = table_lanes(table, words, e + 3);
+    let all = first.and(second).and(third.and(fourth));
+    match k {
+        0..=5 => all.finish(k),
+        _ => all.finish(k + 1),
+    }
+}
+
+// Gate n, of kind k. Most gates have no fault and are no XOR.
+fn any_gate(
+    c: &[u8],
+    table: &[u16],
+    masks: &[u64],
+    words: &[u64],
+    n: usize,
+    k: u8,
+    row: usize,
+) -> Lanes
+    requires { ⌜ (ValidCircuit (now c)) × (n < N (now c)) × (k ≡ kind (now c) n) × (2 ≤ k) × (PinTable (now c) (now table)) × (MaskRoom (now masks)) × (row < 256) × (Room n (now words)) ⌝ }
     ensures { λ r. ⌜ ((t : ℕ) (f : Fault) (vs : List ℕ) → StuckAt t (now (masks .entry)) row f n → Lane t (now (words .entry)) vs → length vs ≡ n → Holds t r (gate k (pinsSeen (now (c .entry)) f vs n))) ⌝ }
 {
     if row == 0 {
-        return gate_lanes(c, masks, words, n, k, 0);
+        if k <= 7 {
+            return and_gate(c, table, words, n, k);
+        }
     }
     gate_lanes(c, masks, words, n, k, row)
 }
@@ -92,6 +110,7 @@ fn any_gate(c: &[u8], masks: &[u64], words: &[u64], n: usize, k: u8, row: usize)
 // What stands behind line n, of kind k, with i inputs and s flip-flops below it.
 fn behind_lanes(
     c: &[u8],
+    table: &[u16],
     inputs: &[u8],
     state: &[u64],
     masks: &[u64],
@@ -102,21 +121,22 @@ fn behind_lanes(
     i: usize,
     s: usize,
 ) -> Lanes
-    requires { ⌜ (ValidCircuit (now c)) × (n < N (now c)) × (k ≡ kind (now c) n) × (MaskRoom (now masks)) × (row < 256) × (Room n (now words))
+    requires { ⌜ (ValidCircuit (now c)) × (n < N (now c)) × (k ≡ kind (now c) n) × (PinTable (now c) (now table)) × (MaskRoom (now masks)) × (row < 256) × (Room n (now words))
         × (i ≡ countBelow (λ m. isInput (now c) m) n) × (s ≡ countBelow (λ m. isFlipFlop (now c) m) n) × (I (now c) ≤ length (now inputs)) × (Room (F (now c)) (now state)) ⌝ }
     ensures { λ r. ⌜ ((t : ℕ) (f : Fault) (st vs : List ℕ) → t < 64 → StuckAt t (now (masks .entry)) row f n → Lane t (now (state .entry)) st → length st ≡ F (now (c .entry))
         → Lane t (now (words .entry)) vs → length vs ≡ n → Holds t r (behind (now (c .entry)) f (now (inputs .entry)) st vs n)) ⌝ }
 {
     match k {
         0 => Lanes::all(inputs[i]),
-        1 => lanes_at(state, s),
-        _ => any_gate(c, masks, words, n, k, row),
+        1 => lanes::read(state, s),
+        _ => any_gate(c, table, masks, words, n, k, row),
     }
 }
 
 // The values of all lines.
 pub fn simulate_unit(
     c: &[u8],
+    table: &[u16],
     lines: usize,
     inputs: &[u8],
     state: &[u64],
@@ -124,7 +144,7 @@ pub fn simulate_unit(
     masks: &[u64],
     words: &mut [u64],
 )
-    requires { ⌜ (ValidCircuit (now c)) × (lines ≡ N (now c)) × (lines ≤ length (now hits)) × (MaskRoom (now masks)) × (Room lines (now words))
+    requires { ⌜ (ValidCircuit (now c)) × (PinTable (now c) (now table)) × (lines ≡ N (now c)) × (lines ≤ length (now hits)) × (MaskRoom (now masks)) × (Room lines (now words))
         × (I (now c) ≤ length (now inputs)) × (Room (F (now c)) (now state)) ⌝ }
     ensures { λ _. ⌜ ((t : ℕ) (f : Fault) (st : List ℕ) → Stuck t (now (hits .entry)) (now (masks .entry)) f → Lane t (now (state .entry)) st → length st ≡ F (now (c .entry))
         → Lane t (now (words .exit)) (lineValues (now (c .entry)) f (now (inputs .entry)) st)) ⌝ }
@@ -135,8 +155,8 @@ pub fn simulate_unit(
     while n < lines {
         let k = circuit::kind_of(c, n);
         let row = circuit::wide(hits[n]);
-        let x = behind_lanes(c, inputs, state, masks, words, n, k, row, i, s);
-        put_lanes(words, n, seen_at(masks, row, 0, x));
+        let x = behind_lanes(c, table, inputs, state, masks, words, n, k, row, i, s);
+        lanes::store(words, n, seen_at(masks, row, 0, x));
         i += circuit::one_if(k == 0);
         s += circuit::one_if(k == 1);
         n += 1;
@@ -162,7 +182,7 @@ pub fn next_state(
     while s < count {
         let n = flops[s];
         let row = circuit::wide(hits[n]);
-        put_lanes(state, s, pin_lanes(c, masks, words, n, 1, row));
+        lanes::store(state, s, pin_lanes(c, masks, words, n, 1, row));
         s += 1;
     }
 }

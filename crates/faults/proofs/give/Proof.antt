@@ -9,8 +9,8 @@ use Rattle.faults.proofs.give.Reads as reads
 use Rattle.faults.proofs.give.Lts as lts
 use Rattle.circuit.proofs.wide.Reads as wide-reads
 use Rattle.lanes.proofs.Lanes.with.Reads as with-reads
-use Rattle.unit.proofs.lanes_at.Reads as lanes-at-reads
-use Rattle.unit.proofs.put_lanes.Reads as put-lanes-reads
+use Rattle.lanes.proofs.read.Reads as read-reads
+use Rattle.lanes.proofs.store.Reads as store-reads
 
 abbrev Start : tie.Joined1 → tie.Start
 Start c = c .before .before .before .before
@@ -43,14 +43,14 @@ mul-at c = search needs
 add-at : tie.Need-add-at
 add-at c = search needs
 
-lanes-at-requires : tie.Need-lanes-at-requires
-lanes-at-requires c κs = search needs
+read-requires : tie.Need-read-requires
+read-requires c κs = search needs
 
 with-requires : tie.Need-with-requires
 with-requires c κs = search needs
 
-put-lanes-requires : tie.Need-put-lanes-requires
-put-lanes-requires c κs = search needs
+store-requires : tie.Need-store-requires
+store-requires c κs = search needs
 
 same-length : tie.Need-same-length
 same-length c = with-row (c .before .before .before .before .before .before .before .before .before) .size
@@ -62,11 +62,11 @@ returns : tie.Need-returns
 returns c =
     let at = c .before .before .before .before .before .before .before .before .before in
     let row = with-row at in
-    let read = c .before .before .before .before .before .lanes-at .ensures in (
+    let read = c .before .before .before .before .before .read .ensures in (
       row .kept,
-      lane-given _ _ _ _ _ _ _ _ _ _ _ row (c .before .before .before .before .before .before .before .wide .ensures .0) (c .before .before .put-lanes .ensures)
+      lane-given _ _ _ _ _ _ _ _ _ _ _ row (c .before .before .before .before .before .before .before .wide .ensures .0) (c .before .before .store .ensures)
           (omega arith) (omega arith) (omega arith) (omega arith) (omega arith) (omega arith)
-          (λ s w hs h g. c .before .before .before .with .ensures s w hs (rw (read .0, read .1) h) g),
+          (λ s w hs h g. c .before .before .before .with .ensures s w hs (read s w h) g),
     )
 
 pub give-spec : {M : Type 1} → statement M
@@ -81,9 +81,9 @@ give-spec =
     wide-requires
     mul-at
     add-at
-    lanes-at-requires
+    read-requires
     with-requires
-    put-lanes-requires
+    store-requires
     same-length
     same-length-2
     returns)

@@ -7,19 +7,19 @@ use Rattle.faults.proofs.give_all.Tie as tie
 use Rattle.faults.proofs.give_all.Reads as reads
 use Rattle.faults.proofs.give_all.Lts as lts
 use Rattle.lanes.proofs.Lanes.all.Reads as all-reads
-use Rattle.unit.proofs.put_lanes.Reads as put-lanes-reads
+use Rattle.lanes.proofs.store.Reads as store-reads
 
 slice-write-hits : tie.Need-slice-write-hits
 slice-write-hits c = search needs
 
-add-put-lanes : tie.Need-add-put-lanes
-add-put-lanes c = search needs
+add-store : tie.Need-add-store
+add-store c = search needs
 
 all-requires : tie.Need-all-requires
 all-requires c κs = search needs
 
-put-lanes-requires : tie.Need-put-lanes-requires
-put-lanes-requires c κs = search needs
+store-requires : tie.Need-store-requires
+store-requires c κs = search needs
 
 same-length : tie.Need-same-length
 same-length c = search needs
@@ -30,7 +30,7 @@ same-length-2 c = search needs
 returns : tie.Need-returns
 returns c =
     let start = c .before .before .before .before .before .before .before in
-    let put = c .before .before .put-lanes .ensures in
+    let put = c .before .before .store .ensures in
     let new = c .before .before .before .all .ensures in (
       all-only _ _ _ _ _ _ _ _ _ (start .pre .0) refl put (omega arith) (omega arith) (omega arith) (omega arith) new,
       all-stuck _ _ _ _ _ _ _ _ _ (start .pre .0) refl put (omega arith) (omega arith) (omega arith) (omega arith) new,
@@ -41,9 +41,9 @@ give-all-spec =
     tie.close
     (tie.spec
     slice-write-hits
-    add-put-lanes
+    add-store
     all-requires
-    put-lanes-requires
+    store-requires
     same-length
     same-length-2
     returns)

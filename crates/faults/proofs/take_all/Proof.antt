@@ -6,16 +6,16 @@ use Rattle.faults.proofs.take_all.Statement.{statement}
 use Rattle.faults.proofs.take_all.Tie as tie
 use Rattle.faults.proofs.take_all.Reads as reads
 use Rattle.faults.proofs.take_all.Lts as lts
-use Rattle.unit.proofs.put_lanes.Reads as put-lanes-reads
+use Rattle.lanes.proofs.store.Reads as store-reads
 
 slice-write-hits : tie.Need-slice-write-hits
 slice-write-hits c = search needs
 
-add-put-lanes : tie.Need-add-put-lanes
-add-put-lanes c = search needs
+add-store : tie.Need-add-store
+add-store c = search needs
 
-put-lanes-requires : tie.Need-put-lanes-requires
-put-lanes-requires c κs = search needs
+store-requires : tie.Need-store-requires
+store-requires c κs = search needs
 
 same-length : tie.Need-same-length
 same-length c = search needs
@@ -26,9 +26,9 @@ same-length-2 c = search needs
 returns : tie.Need-returns
 returns c =
     let start = c .before .before .before .before .before .before in
-    all-taken _ _ _ _ _ _ (start .pre .0) refl (c .before .before .put-lanes .ensures) (omega arith) (omega arith) (omega arith)
+    all-taken _ _ _ _ _ _ (start .pre .0) refl (c .before .before .store .ensures) (omega arith) (omega arith) (omega arith)
 
 pub take-all-spec : {M : Type 1} → statement M
 take-all-spec =
     tie.close
-    (tie.spec slice-write-hits add-put-lanes put-lanes-requires same-length same-length-2 returns)
+    (tie.spec slice-write-hits add-store store-requires same-length same-length-2 returns)

@@ -9,7 +9,7 @@ use Rattle.run.proofs.power_up.Statement.{statement}
 use Rattle.run.proofs.power_up.Tie as tie
 use Rattle.run.proofs.power_up.Reads as reads
 use Rattle.run.proofs.power_up.Lts as lts
-use Rattle.unit.proofs.put_lanes.Reads as put-lanes-reads
+use Rattle.lanes.proofs.store.Reads as store-reads
 
 abbrev Inv-loop : tie.InvT-loop
 Inv-loop c count state₀ s₀ state s =
@@ -21,8 +21,8 @@ abbrev μ-loop : tie.MeasureT-loop
 loop-holds : tie.Need-loop-holds Inv-loop μ-loop
 loop-holds c = (omega arith, refl, λ lane. power-none (c .before .before .args .c .now) lane _)
 
-put-lanes-requires : tie.Need-put-lanes-requires Inv-loop μ-loop
-put-lanes-requires c κs = omega (arith, c .before .loop-test .taken, c .before .before .loop .inv .1, c .before .before .before .before .before .pre .1)
+store-requires : tie.Need-store-requires Inv-loop μ-loop
+store-requires c κs = omega (arith, c .before .loop-test .taken, c .before .before .loop .inv .1, c .before .before .before .before .before .pre .1)
 
 add-s : tie.Need-add-s Inv-loop μ-loop
 add-s c = omega (arith, c .before .before .before .before .loop-test .taken)
@@ -37,7 +37,7 @@ loop-again c =
     let start = turn .before .before .before .before in (
       omega (arith, turn .loop-test .taken),
       omega (arith, loop .inv .1, c .before .state .given),
-      λ lane. power-more _ lane _ _ _ (c .before .before .put-lanes .ensures) (omega (arith, turn .loop-test .taken, start .pre .0)) (omega (arith, turn .loop-test .taken, loop .inv .1, start .pre .1)) (loop .inv .2 lane),
+      λ lane. power-more _ lane _ _ _ (c .before .before .store .ensures) (omega (arith, turn .loop-test .taken, start .pre .0)) (omega (arith, turn .loop-test .taken, loop .inv .1, start .pre .1)) (loop .inv .2 lane),
     )
 
 same-length : tie.Need-same-length Inv-loop μ-loop
@@ -53,7 +53,7 @@ power-up-spec =
     Inv-loop
     μ-loop
     loop-holds
-    put-lanes-requires
+    store-requires
     add-s
     loop-less
     loop-again

@@ -29,8 +29,8 @@ same-length c = search needs
 
 returns : tie.Need-returns
 returns c = λ lane f st s l e.
-    let start = c .before .before .before .before .before .before .before .before .before .before .before in
-    rw (← (part-inputs (start .args .c .now) (start .args .t .now) (start .args .inputs) (start .args .u) (start .pre .2))) (c .before .before .simulate-unit .ensures lane f st s l e)
+    let start = c .before .before .before .before .before .before .before .before .before .before .before .before in
+    rw (← (part-inputs (start .args .c .now) (start .args .t .now) (start .args .inputs) (start .args .u) (start .pre .3))) (c .before .before .simulate-unit .ensures lane f st s l e)
 
 pub values-at-spec : {M : Type 1} → statement M
 values-at-spec =

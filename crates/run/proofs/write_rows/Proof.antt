@@ -24,21 +24,21 @@ use Rattle.run.proofs.write_state.Reads as write-state-reads
 use Rattle.unit.proofs.next_state.Reads as next-state-reads
 
 abbrev Inv-loop : tie.InvT-loop
-Inv-loop c job t bits flops outs hits masks words₀ state₀ area₀ size u₀ words state area u =
+Inv-loop c job t bits table flops outs hits masks words₀ state₀ area₀ size u₀ words state area u =
     (u ≤ job .units) × (length words ≡ length words₀) × (length state ≡ length state₀) × (length area ≡ length area₀)
     × ((f : Fault) (st : List ℕ) → Stuck 0 hits masks f → Lane 0 state₀ st → length st ≡ F c → ThreeValued st
     → Lane 0 state (stateAt c t f st u) × (area ≡ overwritten (rows c t f st bits u) area₀))
 
 abbrev μ-loop : tie.MeasureT-loop
-μ-loop c job t bits flops outs hits masks words₀ state₀ area₀ size u₀ words state area u = job .units - u
+μ-loop c job t bits table flops outs hits masks words₀ state₀ area₀ size u₀ words state area u = job .units - u
 
-room : (c : tie.Then1 Inv-loop μ-loop) → RowRoom (c .before .before .before .before .before .before .before .before .before .before .before .before .before .args .job .outputs + c .before .before .before .before .before .before .before .before .before .before .before .before .before .args .bits) (c .before .before .loop .u) (length (c .before .before .before .before .before .before .before .before .before .before .before .before .before .args .area .now))
+room : (c : tie.Then1 Inv-loop μ-loop) → RowRoom (c .before .before .before .before .before .before .before .before .before .before .before .before .before .before .args .job .outputs + c .before .before .before .before .before .before .before .before .before .before .before .before .before .before .args .bits) (c .before .before .loop .u) (length (c .before .before .before .before .before .before .before .before .before .before .before .before .before .before .args .area .now))
 room c =
-    let pre = c .before .before .before .before .before .before .before .before .before .before .before .before .before .pre in
+    let pre = c .before .before .before .before .before .before .before .before .before .before .before .before .before .before .pre in
     row-room _ _ _ _ _ _ (pre .0 .circuit) (pre .0 .test) (pre .0 .sizes) (pre .1) (pre .2) (c .if1 .taken)
 
 add-size : tie.Need-add-size Inv-loop μ-loop
-add-size c = let pre = c .before .before .before .before .before .before .before .before .before .before .pre in omega (arith, pre .0 .sizes .outputs, pre .1, pre .0 .circuit .outputs, pre .0 .circuit .flipFlops)
+add-size c = let pre = c .before .before .before .before .before .before .before .before .before .before .before .pre in omega (arith, pre .0 .sizes .outputs, pre .1, pre .0 .circuit .outputs, pre .0 .circuit .flipFlops)
 
 loop-holds : tie.Need-loop-holds Inv-loop μ-loop
 unfolding stateAt rows gather
@@ -50,9 +50,10 @@ mul-place c = omega (arith, room c .below)
 values-at-requires : tie.Need-values-at-requires Inv-loop μ-loop
 values-at-requires c κs =
     let loop = c .before .before .before .before .loop in
-    let pre = c .before .before .before .before .before .before .before .before .before .before .before .before .before .before .before .pre in
+    let pre = c .before .before .before .before .before .before .before .before .before .before .before .before .before .before .before .before .pre in
     let job = pre .0 .sizes in (
       pre .0 .circuit,
+      pre .0 .pinTable,
       job .lines,
       job .inputs,
       test-fits _ _ _ _ job (pre .0 .test) (c .before .before .if1 .taken),
@@ -65,22 +66,22 @@ values-at-requires c κs =
 write-outputs-requires : tie.Need-write-outputs-requires Inv-loop μ-loop
 write-outputs-requires c κs =
     let loop = c .before .before .before .before .before .before .before .before .before .loop in
-    let pre = c .before .before .before .before .before .before .before .before .before .before .before .before .before .before .before .before .before .before .before .before .pre in
+    let pre = c .before .before .before .before .before .before .before .before .before .before .before .before .before .before .before .before .before .before .before .before .before .pre in
     (pre .0 .circuit, pre .0 .outputTable, pre .0 .sizes .outputs, omega (arith, pre .0 .lineRoom, loop .inv .1), omega (arith, room (c .before .before .before .before .before .before .before) .fits, loop .inv .3))
 
 add-write-state : tie.Need-add-write-state Inv-loop μ-loop
-add-write-state c = omega (arith, room (c .before .before .before .before .before .before .before .before .before .before .before .before .before) .below, c .before .before .before .before .before .before .before .before .before .before .before .before .before .before .before .before .before .before .before .before .before .before .before .before .before .before .pre .0 .sizes .outputs, c .before .before .before .before .before .before .before .before .before .before .before .before .before .before .before .before .before .before .before .before .before .before .before .before .before .before .pre .0 .circuit .outputs)
+add-write-state c = omega (arith, room (c .before .before .before .before .before .before .before .before .before .before .before .before .before) .below, c .before .before .before .before .before .before .before .before .before .before .before .before .before .before .before .before .before .before .before .before .before .before .before .before .before .before .before .pre .0 .sizes .outputs, c .before .before .before .before .before .before .before .before .before .before .before .before .before .before .before .before .before .before .before .before .before .before .before .before .before .before .before .pre .0 .circuit .outputs)
 
 write-state-requires : tie.Need-write-state-requires Inv-loop μ-loop
 write-state-requires c κs =
     let loop = c .before .before .before .before .before .before .before .before .before .before .before .before .before .before .before .loop in
-    let pre = c .before .before .before .before .before .before .before .before .before .before .before .before .before .before .before .before .before .before .before .before .before .before .before .before .before .before .pre in
+    let pre = c .before .before .before .before .before .before .before .before .before .before .before .before .before .before .before .before .before .before .before .before .before .before .before .before .before .before .before .pre in
     (omega (arith, pre .1, pre .0 .stateRoom, loop .inv .2), omega (arith, room (c .before .before .before .before .before .before .before .before .before .before .before .before .before) .fits, loop .inv .3, c .before .before .before .before .area .given))
 
 next-state-requires : tie.Need-next-state-requires Inv-loop μ-loop
 next-state-requires c κs =
     let loop = c .before .before .before .before .before .before .before .before .before .before .before .before .before .before .before .before .before .before .before .before .loop in
-    let pre = c .before .before .before .before .before .before .before .before .before .before .before .before .before .before .before .before .before .before .before .before .before .before .before .before .before .before .before .before .before .before .before .pre in
+    let pre = c .before .before .before .before .before .before .before .before .before .before .before .before .before .before .before .before .before .before .before .before .before .before .before .before .before .before .before .before .before .before .before .before .pre in
     (pre .0 .circuit, pre .0 .flopTable, pre .0 .sizes .flops, pre .0 .hitRoom, pre .0 .maskRoom, omega (arith, pre .0 .lineRoom, loop .inv .1), omega (arith, pre .0 .sizes .flops, pre .0 .stateRoom, loop .inv .2))
 
 add-u : tie.Need-add-u Inv-loop μ-loop
@@ -92,7 +93,7 @@ loop-less c = omega (arith, c .before .before .before .before .before .before .b
 loop-again : tie.Need-loop-again Inv-loop μ-loop
 loop-again c =
     let loop = c .before .before .before .before .before .before .before .before .before .before .before .before .before .before .before .before .before .before .before .before .before .before .before .loop in
-    let start = c .before .before .before .before .before .before .before .before .before .before .before .before .before .before .before .before .before .before .before .before .before .before .before .before .before .before .before .before .before .before .before .before .before .before in
+    let start = c .before .before .before .before .before .before .before .before .before .before .before .before .before .before .before .before .before .before .before .before .before .before .before .before .before .before .before .before .before .before .before .before .before .before .before in
     let cs = start .args .c .now in
     let ts = start .args .t .now in
     let job = start .pre .0 .sizes in
@@ -116,7 +117,7 @@ loop-again c =
             rw (rows-turn cs ts f st bits u)
                 (c .before .before .before .before .before .before .before .write-state .ensures state (rows cs ts f st bits u ++ outputs cs f vs) (start .args .area .now) (before .0) (omega (arith, length-state cs ts f st u e, start .pre .1))
                 (stateAt-three cs f binary ts st u (start .pre .0 .test .bytes) w)
-                (c .before .before .before .before .before .before .before .before .before .before .before .before .before .write-outputs .ensures f vs (rows cs ts f st bits u) (start .args .area .now) values long (values-three cs ts f st u binary (start .pre .0 .test) w) (before .1) place)
+                (c .before .before .before .before .before .before .before .before .before .before .before .before .before .write-outputs .ensures f vs (rows cs ts f st bits u) (start .args .area .now) s values long (values-three cs ts f st u binary (start .pre .0 .test) w) (before .1) place)
                 behind),
           ),
     )
@@ -134,7 +135,7 @@ returns : tie.Need-returns Inv-loop μ-loop
 unfolding rows
 returns c = λ f st s l e w.
     let loop = c .before .before .loop in
-    let start = c .before .before .before .before .before .before .before .before .before .before .before .before .before in
+    let start = c .before .before .before .before .before .before .before .before .before .before .before .before .before .before in
     let end : loop .u ≡ L (start .args .c .now) (start .args .t .now) = omega (arith, loop .inv .0, c .if1 .left, start .pre .0 .sizes .units) in
     rw (← end) (loop .inv .4 f st s l e w .1)
 

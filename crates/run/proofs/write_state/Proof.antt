@@ -15,7 +15,7 @@ use Rattle.run.proofs.write_state.Tie as tie
 use Rattle.run.proofs.write_state.Reads as reads
 use Rattle.run.proofs.write_state.Lts as lts
 use Rattle.lanes.proofs.Lanes.lane.Reads as lane-reads
-use Rattle.unit.proofs.lanes_at.Reads as lanes-at-reads
+use Rattle.lanes.proofs.read.Reads as read-reads
 
 abbrev Inv-loop : tie.InvT-loop
 Inv-loop state count area₀ place s₀ area s =
@@ -28,8 +28,8 @@ abbrev μ-loop : tie.MeasureT-loop
 loop-holds : tie.Need-loop-holds Inv-loop μ-loop
 loop-holds c = (omega arith, refl, λ st done old l e w a d. row-none done st old _ a)
 
-lanes-at-requires : tie.Need-lanes-at-requires Inv-loop μ-loop
-lanes-at-requires c κs = omega (arith, c .loop-test .taken, c .before .before .before .before .pre .0)
+read-requires : tie.Need-read-requires Inv-loop μ-loop
+read-requires c κs = omega (arith, c .loop-test .taken, c .before .before .before .before .pre .0)
 
 lane-requires : tie.Need-lane-requires Inv-loop μ-loop
 lane-requires c κs = omega arith
@@ -50,12 +50,12 @@ loop-again : tie.Need-loop-again Inv-loop μ-loop
 loop-again c =
     let turn = c .before .before in
     let loop = turn .before .loop in
-    let read = c .before .lanes-at .ensures in (
+    let read = c .before .read .ensures in (
       omega (arith, turn .loop-test .taken),
       simp length-set (loop .inv .1),
       λ st done old l e w a d.
           row-more done st old _ _ _ _ _ X refl
-          (c .lane .ensures (getD st (loop .s) X) (three-at st (loop .s) w) (lane-read 0 _ st _ _ _ (loop .s) l (read .0) (read .1) refl (omega (arith, e, turn .loop-test .taken))))
+          (c .lane .ensures (getD st (loop .s) X) (three-at st (loop .s) w) (read 0 _ (lane-read 0 _ st _ (loop .s) l refl (omega (arith, e, turn .loop-test .taken)))))
           d (omega (arith, e, turn .loop-test .taken)) (omega (arith, turn .loop-test .taken, loop .inv .1, turn .before .before .before .before .pre .1)) (loop .inv .2 st done old l e w a d),
     )
 
@@ -74,7 +74,7 @@ write-state-spec =
     Inv-loop
     μ-loop
     loop-holds
-    lanes-at-requires
+    read-requires
     lane-requires
     add-area
     slice-write-area

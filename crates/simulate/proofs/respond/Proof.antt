@@ -12,9 +12,16 @@ use Rattle.simulate.proofs.respond.Reads as reads
 use Rattle.simulate.proofs.respond.Lts as lts
 use Rattle.circuit.proofs.list_flops.Reads as list-flops-reads
 use Rattle.circuit.proofs.list_outputs.Reads as list-outputs-reads
+use Rattle.circuit.proofs.list_pins.Reads as list-pins-reads
 use Rattle.run.proofs.power_up.Reads as power-up-reads
 use Rattle.run.proofs.write_rows.Reads as write-rows-reads
 use Rattle.simulate.proofs.give_only.Reads as give-only-reads
+
+slice-aggregate-list-pins : tie.Need-slice-aggregate-list-pins
+slice-aggregate-list-pins c = search needs
+
+list-pins-requires : tie.Need-list-pins-requires
+list-pins-requires c κs = search needs
 
 slice-aggregate-list-flops : tie.Need-slice-aggregate-list-flops
 slice-aggregate-list-flops c = search needs
@@ -36,7 +43,7 @@ slice-aggregate-give-only-2 c = search needs
 
 give-only-requires : tie.Need-give-only-requires
 give-only-requires c κs =
-    let accepted = c .before .before .before .before .before .before .before .before .before .before .before .before .pre .0 .inputs in (
+    let accepted = c .before .before .before .before .before .before .before .before .before .before .before .before .before .before .before .pre .0 .inputs in (
       blank-zeros 4096 2560,
       omega arith,
       omega arith,
@@ -69,21 +76,25 @@ slice-aggregate-write-rows-5 c = search needs
 slice-aggregate-write-rows-6 : tie.Need-slice-aggregate-write-rows-6
 slice-aggregate-write-rows-6 c = search needs
 
+slice-aggregate-write-rows-7 : tie.Need-slice-aggregate-write-rows-7
+slice-aggregate-write-rows-7 c = search needs
+
 write-rows-requires : tie.Need-write-rows-requires
 write-rows-requires c κs =
-    let pre = c .before .before .before .before .before .before .before .before .before .before .before .before .before .before .before .before .before .before .before .before .before .before .before .before .before .pre in
+    let pre = c .before .before .before .before .before .before .before .before .before .before .before .before .before .before .before .before .before .before .before .before .before .before .before .before .before .before .before .before .before .pre in
     let inputs = pre .0 .inputs in
     let circuit = inputs .circuit in (
       record {
         circuit = circuit;
         test = inputs .test;
         sizes = pre .1;
-        flopTable = c .before .before .before .before .before .before .before .before .before .before .before .before .before .before .before .before .before .before .before .list-flops .ensures;
-        outputTable = c .before .before .before .before .before .before .before .before .before .before .before .before .before .before .before .before .list-outputs .ensures;
-        hitRoom = omega (arith, circuit .lines, c .before .before .before .before .before .before .before .before .before .before .before .hits2 .given);
-        maskRoom = omega (arith, c .before .before .before .before .before .before .before .before .before .before .masks2 .given);
+        pinTable = c .before .before .before .before .before .before .before .before .before .before .before .before .before .before .before .before .before .before .before .before .before .before .before .list-pins .ensures;
+        flopTable = c .before .before .before .before .before .before .before .before .before .before .before .before .before .before .before .before .before .before .before .before .list-flops .ensures;
+        outputTable = c .before .before .before .before .before .before .before .before .before .before .before .before .before .before .before .before .before .list-outputs .ensures;
+        hitRoom = omega (arith, circuit .lines, c .before .before .before .before .before .before .before .before .before .before .before .before .hits2 .given);
+        maskRoom = omega (arith, c .before .before .before .before .before .before .before .before .before .before .before .masks2 .given);
         lineRoom = omega (arith, circuit .lines);
-        stateRoom = omega (arith, circuit .flipFlops, c .before .before .before .before .before .before .before .state2 .given);
+        stateRoom = omega (arith, circuit .flipFlops, c .before .before .before .before .before .before .before .before .state2 .given);
       },
       omega arith,
       rw add-zero (pre .0 .room),
@@ -94,14 +105,17 @@ same-length c = search needs
 
 returns : tie.Need-returns
 returns c =
-    let cs = c .before .before .before .before .before .before .before .before .before .before .before .before .before .before .before .before .before .before .before .before .before .before .before .before .before .before .before .before .before .before .args .c .now in
-    rw (← (rows-plain cs (c .before .before .before .before .before .before .before .before .before .before .before .before .before .before .before .before .before .before .before .before .before .before .before .before .before .before .before .before .before .before .args .t .now) (c .before .before .before .before .before .before .before .before .before .before .before .before .before .before .before .before .before .before .before .before .before .before .before .before .before .before .before .before .before .before .args .fs .now)))
-    (c .before .before .before .before .write-rows .ensures _ (powerUp cs) (c .before .before .before .before .before .before .before .before .before .before .before .before .before .before .before .before .before .give-only .ensures) (c .before .before .before .before .before .before .before .before .before .before .before .before .before .power-up .ensures 0) (length-powerUp cs) (powerUp-three cs))
+    let start = c .before .before .before .before .before .before .before .before .before .before .before .before .before .before .before .before .before .before .before .before .before .before .before .before .before .before .before .before .before .before .before .before .before .before in
+    let cs = start .args .c .now in
+    rw (← (rows-plain cs (start .args .t .now) (start .args .fs .now)))
+    (c .before .before .before .before .write-rows .ensures _ (powerUp cs) (c .before .before .before .before .before .before .before .before .before .before .before .before .before .before .before .before .before .before .give-only .ensures) (c .before .before .before .before .before .before .before .before .before .before .before .before .before .before .power-up .ensures 0) (length-powerUp cs) (powerUp-three cs))
 
 pub respond-spec : {M : Type 1} → statement M
 respond-spec =
     tie.close
     (tie.spec
+    slice-aggregate-list-pins
+    list-pins-requires
     slice-aggregate-list-flops
     list-flops-requires
     slice-aggregate-list-outputs
@@ -117,6 +131,7 @@ respond-spec =
     slice-aggregate-write-rows-4
     slice-aggregate-write-rows-5
     slice-aggregate-write-rows-6
+    slice-aggregate-write-rows-7
     write-rows-requires
     same-length
     returns)

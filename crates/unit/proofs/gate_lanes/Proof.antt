@@ -2,7 +2,8 @@ use Prim.Native.Nat.{ℕ, _<_, _≤_, _/_}
 use native.Mathlib.Omega.{arith}
 use Rattle.model.specs.Inputs.{pinCount, pinLine}
 use Rattle.lanes.proofs.Laws.{shows-single}
-use Rattle.unit.proofs.Laws.{pins-1, pins-2, pins-3, pins-4, shows-gate, is-gate, lower-pin}
+use Rattle.circuit.proofs.Laws.{is-gate, lower-pin}
+use Rattle.unit.proofs.Laws.{pins-1, pins-2, pins-3, pins-4, shows-gate}
 use borrow.Author.Needs.{needs}
 use Rattle.unit.proofs.gate_lanes.Statement.{statement}
 use Rattle.unit.proofs.gate_lanes.Tie as tie

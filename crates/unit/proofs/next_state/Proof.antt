@@ -13,7 +13,7 @@ use Rattle.unit.proofs.next_state.Reads as reads
 use Rattle.unit.proofs.next_state.Lts as lts
 use Rattle.circuit.proofs.wide.Reads as wide-reads
 use Rattle.unit.proofs.pin_lanes.Reads as pin-lanes-reads
-use Rattle.unit.proofs.put_lanes.Reads as put-lanes-reads
+use Rattle.lanes.proofs.store.Reads as store-reads
 
 abbrev Inv-loop : tie.InvT-loop
 Inv-loop c flops count hits masks words state₀ s₀ state s =
@@ -50,8 +50,8 @@ pin-lanes-requires c κs =
     let flop = at (c .before .before .before .before) in
     (omega (arith, flop .below, pre .0 .size), omega arith, omega arith, pre .4, omega (arith, c .before .wide .ensures .1), omega (arith, flop .fed, pre .5))
 
-put-lanes-requires : tie.Need-put-lanes-requires Inv-loop μ-loop
-put-lanes-requires c κs = omega (arith, c .before .before .before .before .before .before .loop .inv .1, c .before .before .before .before .before .before .before .before .before .before .before .before .before .pre .6)
+store-requires : tie.Need-store-requires Inv-loop μ-loop
+store-requires c κs = omega (arith, c .before .before .before .before .before .before .loop .inv .1, c .before .before .before .before .before .before .before .before .before .before .before .before .before .pre .6)
 
 add-s : tie.Need-add-s Inv-loop μ-loop
 add-s c = omega arith
@@ -64,7 +64,7 @@ loop-again c =
     let loop = c .before .before .before .before .before .before .before .before .before .loop in
     let start = c .before .before .before .before .before .before .before .before .before .before .before .before .before .before .before .before in
     let flop = at (c .before .before .before .before .before .before .before .before) in
-    let put = c .before .before .put-lanes .ensures in (
+    let put = c .before .before .store .ensures in (
       omega arith,
       rw put (simp length-set (loop .inv .1)),
       λ t f vs s l e.
@@ -91,7 +91,7 @@ next-state-spec =
     shared-slice-read-wide
     wide-requires
     pin-lanes-requires
-    put-lanes-requires
+    store-requires
     add-s
     loop-less
     loop-again

@@ -6,19 +6,19 @@ use Rattle.unit.proofs.seen_at.Tie as tie
 use Rattle.unit.proofs.seen_at.Reads as reads
 use Rattle.unit.proofs.seen_at.Lts as lts
 use Rattle.lanes.proofs.Lanes.stuck.Reads as stuck-reads
-use Rattle.unit.proofs.lanes_at.Reads as lanes-at-reads
+use Rattle.lanes.proofs.read.Reads as read-reads
 
 returns : tie.Need-returns
 returns c = λ t f n v s h. seen-free t _ _ v _ _ f n _ s (c .if1 .taken) h
 
-mul-lanes-at : tie.Need-mul-lanes-at
-mul-lanes-at c = search needs
+mul-read : tie.Need-mul-read
+mul-read c = search needs
 
-add-lanes-at : tie.Need-add-lanes-at
-add-lanes-at c = search needs
+add-read : tie.Need-add-read
+add-read c = search needs
 
-lanes-at-requires : tie.Need-lanes-at-requires
-lanes-at-requires c κs = search needs
+read-requires : tie.Need-read-requires
+read-requires c κs = search needs
 
 stuck-requires : tie.Need-stuck-requires
 stuck-requires c κs = search needs
@@ -26,9 +26,9 @@ stuck-requires c κs = search needs
 returns-2 : tie.Need-returns-2
 returns-2 c = λ t f n v s h.
     seen-held t _ _ v _ _ f n _ s (c .before .before .if1 .left) (omega arith)
-    (λ hit w l m. c .stuck .ensures t v hit w l (rw (c .before .lanes-at .ensures .0, c .before .lanes-at .ensures .1) m) h)
+    (λ hit w l m. c .stuck .ensures t v hit w l (c .before .read .ensures t _ m) h)
 
 pub seen-at-spec : {M : Type 1} → statement M
 seen-at-spec =
     tie.close
-    (tie.spec returns mul-lanes-at add-lanes-at lanes-at-requires stuck-requires returns-2)
+    (tie.spec returns mul-read add-read read-requires stuck-requires returns-2)

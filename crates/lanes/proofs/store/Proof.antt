@@ -1,10 +1,10 @@
 use native.Mathlib.Omega.{arith}
 use lib.ListN.{length-set}
 use borrow.Author.Needs.{needs}
-use Rattle.unit.proofs.put_lanes.Statement.{statement}
-use Rattle.unit.proofs.put_lanes.Tie as tie
-use Rattle.unit.proofs.put_lanes.Reads as reads
-use Rattle.unit.proofs.put_lanes.Lts as lts
+use Rattle.lanes.proofs.store.Statement.{statement}
+use Rattle.lanes.proofs.store.Tie as tie
+use Rattle.lanes.proofs.store.Reads as reads
+use Rattle.lanes.proofs.store.Lts as lts
 
 mul-words : tie.Need-mul-words
 mul-words c = search needs
@@ -33,8 +33,8 @@ same-length c = search needs
 returns : tie.Need-returns
 returns c = search needs
 
-pub put-lanes-spec : {M : Type 1} → statement M
-put-lanes-spec =
+pub store-spec : {M : Type 1} → statement M
+store-spec =
     tie.close
     (tie.spec
     mul-words

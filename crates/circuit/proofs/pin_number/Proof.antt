@@ -1,0 +1,76 @@
+use mathlib.Core.Path.{_≡_}
+use Prim.Native.Nat.{ℕ, _<_, _≤_}
+use native.Mathlib.Omega.{arith}
+use Rattle.model.specs.Inputs.{kind, pinCount, pinLine}
+use Rattle.model.proofs.Implication.{gate-kind}
+use Rattle.circuit.specs.Table.{pinRead, isOr, pinNumber}
+use Rattle.circuit.proofs.Laws.{is-gate, pin-read-has, pin-read-lower}
+use borrow.Author.Needs.{needs}
+use Rattle.circuit.proofs.pin_number.Statement.{statement}
+use Rattle.circuit.proofs.pin_number.Tie as tie
+use Rattle.circuit.proofs.pin_number.Reads as reads
+use Rattle.circuit.proofs.pin_number.Lts as lts
+use Rattle.circuit.proofs.kind_of.Reads as kind-of-reads
+use Rattle.circuit.proofs.one_if.Reads as one-if-reads
+use Rattle.circuit.proofs.pin_of.Reads as pin-of-reads
+use Rattle.circuit.proofs.pin_read.Reads as pin-read-reads
+use Rattle.circuit.proofs.pins_of.Reads as pins-of-reads
+
+-- the pin that is read: one that the gate has, of a lower line
+record ReadOf (c : tie.Start) (q : ℕ) : Type 0 where
+  few : 1 ≤ q
+  most : q ≤ 4
+  low : pinLine (c .args .c .now) (c .args .n) q < c .args .n
+
+read-of : (c : tie.Start) (k count q : ℕ) → k ≡ kind (c .args .c .now) (c .args .n) → 2 ≤ k → count ≡ pinCount (c .args .c .now) (c .args .n) → q ≡ pinRead count (c .args .p) → ReadOf c q
+read-of c k count q e h counted r =
+    let gate = is-gate _ _ _ e h in
+    let has = pin-read-has (pinCount (c .args .c .now) (c .args .n)) (c .args .p) (c .pre .0 .pinned _ (c .pre .1) gate) (c .pre .2) in
+    let low = pin-read-lower _ (c .pre .0) _ (c .args .p) (c .pre .1) gate (c .pre .2) in
+    rw (r, counted) record { few = has .0; most = omega (arith, has .1, c .pre .0 .few _ (c .pre .1)); low = low }
+
+kind-of-requires : tie.Need-kind-of-requires
+kind-of-requires c κs = search needs
+
+returns : tie.Need-returns
+returns c = λ g. absurd (let z : ⊥ = omega (arith, gate-kind _ _ g, c .before .kind-of .ensures) in z)
+
+pins-of-requires : tie.Need-pins-of-requires
+pins-of-requires c κs = search needs
+
+pin-read-requires : tie.Need-pin-read-requires
+pin-read-requires c κs = search needs
+
+pin-of-requires : tie.Need-pin-of-requires
+pin-of-requires c κs = let r = read-of (c .before .before .before .before .before) _ _ _ (c .before .before .before .kind-of .ensures) (omega (arith, c .before .before .if1 .left)) (c .before .pins-of .ensures .0) (c .pin-read .ensures) in (omega (arith, c .before .before .before .before .before .pre .0 .size, c .before .before .before .before .before .pre .1), r .few, r .most)
+
+mul-number : tie.Need-mul-number
+mul-number c = search needs
+
+one-if-requires : tie.Need-one-if-requires
+one-if-requires c κs = search needs
+
+add-number : tie.Need-add-number
+add-number c = search needs
+
+cast-result : tie.Need-cast-result
+cast-result c = omega (arith, c .before .pin-of .ensures .0, c .one-if .ensures .1, c .before .before .before .before .before .before .before .pre .0 .lines, c .before .before .before .before .before .before .before .pre .1, read-of (c .before .before .before .before .before .before .before) _ _ _ (c .before .before .before .before .before .kind-of .ensures) (omega (arith, c .before .before .before .before .if1 .left)) (c .before .before .before .pins-of .ensures .0) (c .before .before .pin-read .ensures) .low)
+
+returns-2 : tie.Need-returns-2
+unfolding pinNumber isOr
+returns-2 c = λ g. rw (c .before .pin-of .ensures .0, c .one-if .ensures .0, c .before .before .pin-read .ensures, c .before .before .before .pins-of .ensures .0, c .before .before .before .before .before .kind-of .ensures)
+
+pub pin-number-spec : {M : Type 1} → statement M
+pin-number-spec =
+    tie.close
+    (tie.spec
+    kind-of-requires
+    returns
+    pins-of-requires
+    pin-read-requires
+    pin-of-requires
+    mul-number
+    one-if-requires
+    add-number
+    cast-result
+    returns-2)

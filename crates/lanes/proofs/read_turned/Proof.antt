@@ -1,0 +1,27 @@
+use native.Mathlib.Omega.{arith}
+use Rattle.lanes.proofs.Bits.{other-near}
+use Rattle.lanes.proofs.Laws.{shows-turned}
+use borrow.Author.Needs.{needs}
+use Rattle.lanes.proofs.read_turned.Statement.{statement}
+use Rattle.lanes.proofs.read_turned.Tie as tie
+use Rattle.lanes.proofs.read_turned.Reads as reads
+use Rattle.lanes.proofs.read_turned.Lts as lts
+
+mul-t4 : tie.Need-mul-t4
+mul-t4 c = search needs
+
+shared-slice-read-t6 : tie.Need-shared-slice-read-t6
+shared-slice-read-t6 c = search needs
+
+mul-t7 : tie.Need-mul-t7
+mul-t7 c = omega (arith, c .before .pre, c .before .fits, other-near (c .before .args .number))
+
+shared-slice-read-t9 : tie.Need-shared-slice-read-t9
+shared-slice-read-t9 c = omega (arith, c .before .before .pre, other-near (c .before .before .args .number))
+
+returns : tie.Need-returns
+returns c = λ t m v turned e h. shows-turned t (c .before .before .args .words .now) _ m v turned e h
+
+pub read-turned-spec : {M : Type 1} → statement M
+read-turned-spec =
+    tie.close (tie.spec mul-t4 shared-slice-read-t6 mul-t7 shared-slice-read-t9 returns)
