@@ -1,8 +1,9 @@
 //! The proved engine beside loops in Rust: first that all give the same answers, then the time of each.
 //!
 //! The engine simulates 64 faults at once and comes from the static archive `libexported.a`. The loops here
-//! simulate one fault, with one byte a value: 0, 1, or 2 for X. Two of them differ in how a gate is evaluated, by a
-//! match on its kind or by a table. In all, every flip-flop starts at X.
+//! simulate one fault, with one byte a value: 0, 1, or 2 for X. One goes over the circuit records as they are lent,
+//! as the engine must. Two go over a circuit that was decoded before, with the fault built in, and differ in how a
+//! gate is evaluated, by a match on its kind or by a table. In all, every flip-flop starts at X.
 //!
 //! The circuits are random, and the same ones in every run. The timed faults are not detected in the whole
 //! test, so that none may stop before the last unit.
@@ -163,6 +164,59 @@ impl Circuit {
     }
 }
 
+/// AND, OR or XOR of what pins see, by the kind of the gate, before it inverts.
+#[inline(always)]
+fn combine(kind: u8, a: u8, b: u8) -> u8 {
+    match kind {
+        4..=5 => if a == 0 || b == 0 { 0 } else { a.max(b) },
+        6..=7 => if a == 1 || b == 1 { 1 } else { a.max(b) },
+        _ => if a == X || b == X { X } else { a ^ b },
+    }
+}
+
+/// The loop over the records, for the bytes of a valid circuit: nothing is prepared, and every line asks for the fault.
+/// After each unit, `ends` is asked, with what the outputs show, if the run ends here.
+#[inline(always)]
+fn run_records(bytes: &[u8], inputs: usize, test: &[u8], [low, high, pin, stuck]: Fault, mut ends: impl FnMut(&[u8]) -> bool) {
+    let line = u16::from_le_bytes([low, high]) as usize;
+    let (mut values, mut state, mut next, mut shown) = ([X; 4096], [X; 256], [X; 256], [X; 256]);
+    for unit in test.chunks_exact(inputs) {
+        let (mut unit, mut flip_flops, mut outputs) = (unit.iter(), 0, 0);
+        for (n, record) in bytes.chunks_exact(12).enumerate() {
+            let seen = |values: &[u8; 4096], p: usize| {
+                let named = u16::from_le_bytes([record[2 + 2 * p], record[3 + 2 * p]]) as usize & 4095;
+                if n == line && p == pin as usize { stuck } else { values[named] }
+            };
+            let kind = record[0];
+            let plain = match kind {
+                0 => *unit.next().unwrap_or(&X),
+                1 => {
+                    flip_flops += 1;
+                    state[(flip_flops - 1) & 255]
+                }
+                _ => {
+                    let mut value = seen(&values, 1);
+                    for p in 2..=(record[1] & 7).min(4) as usize { value = combine(kind, value, seen(&values, p)); }
+                    if value == X { X } else { value ^ kind & 1 }
+                }
+            };
+            values[n & 4095] = if n == line && pin == 0 { stuck } else { plain };
+            if record[2] == 1 {
+                shown[outputs & 255] = values[n & 4095];
+                outputs += 1;
+            }
+        }
+        flip_flops = 0;
+        for (n, record) in bytes.chunks_exact(12).enumerate().filter(|(_, record)| record[0] == 1) {
+            let named = u16::from_le_bytes([record[4], record[5]]) as usize & 4095;
+            next[flip_flops & 255] = if n == line && pin == 1 { stuck } else { values[named] };
+            flip_flops += 1;
+        }
+        state = next;
+        if ends(&shown[..outputs & 511]) { return; }
+    }
+}
+
 /// Random numbers from a seed (the method known as splitmix64), and what is made of them.
 struct Random(u64);
 
@@ -242,6 +296,16 @@ impl Job {
         detected
     }
 
+    /// By the loop over the records.
+    fn detected_by_records(&self, fault: Fault) -> bool {
+        let (mut free, mut detected) = (self.free.chunks_exact(self.circuit.outputs.len()), false);
+        run_records(&self.bytes, self.circuit.inputs.len(), &self.test, fault, |shown| {
+            detected = shown.iter().zip(free.next().unwrap_or(&[])).any(|(shown, free)| shown ^ free == 1);
+            detected
+        });
+        detected
+    }
+
     /// By the engine: a word with a bit for each of at most 64 faults.
     fn engine(&self, faults: &[Fault]) -> u64 {
         let (bytes, test, faults, free) = (&self.bytes, &self.test, faults.as_flattened(), &self.free);
@@ -258,9 +322,10 @@ impl Job {
             let fault = faults.get(lane);
             let by_match = fault.is_some_and(|&fault| self.detected::<ByMatch>(fault));
             let by_table = fault.is_some_and(|&fault| self.detected::<ByTable>(fault));
-            if engine != by_match || engine != by_table {
+            let by_records = fault.is_some_and(|&fault| self.detected_by_records(fault));
+            if engine != by_match || engine != by_table || engine != by_records {
                 println!("DIFFERENT: N {}, lane {lane}, fault record {fault:?}: detected by the engine {engine}, \
-                    by match {by_match}, by table {by_table}", self.bytes.len() / 12);
+                    by records {by_records}, by match {by_match}, by table {by_table}", self.bytes.len() / 12);
                 exit(1);
             }
         }
@@ -269,10 +334,11 @@ impl Job {
 
     /// Times all in turn on 64 undetected faults.
     fn measure(&self, faults: &[Fault]) {
-        let [mut engine, mut by_match, mut by_table] = [vec![], vec![], vec![]];
+        let [mut engine, mut by_records, mut by_match, mut by_table] = [vec![], vec![], vec![], vec![]];
         for round in 0..ROUNDS {
             engine.push(time(|| self.engine(black_box(faults))));
             for lane in (round % 8..64).step_by(8) {
+                by_records.push(time(|| self.detected_by_records(black_box(faults[lane]))));
                 by_match.push(time(|| self.detected::<ByMatch>(black_box(faults[lane]))));
                 by_table.push(time(|| self.detected::<ByTable>(black_box(faults[lane]))));
             }
@@ -284,7 +350,7 @@ impl Job {
         };
         let engine = median(engine);
         println!("N {lines}, L {UNITS}, nanoseconds per line and unit: engine, 64 faults, {engine:.2}");
-        for (name, times) in [("match", by_match), ("table", by_table)] {
+        for (name, times) in [("records", by_records), ("match", by_match), ("table", by_table)] {
             let one = median(times);
             println!("  byte loop by {name}, one fault, {one:.2}: ratio {:.2}, per fault {:.4}", engine / one, engine / one / 64.0);
         }
