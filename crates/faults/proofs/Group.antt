@@ -35,10 +35,6 @@ module _ (fs : List ℕ) (from : ℕ) where
   unfolding laneFault
   lane-free t s h = rw (le-ltb s t h)
 
-  pub lane-taken : (count s : ℕ) → s < count → laneFault fs from count s ≡ faultAt fs (from + s)
-  unfolding laneFault
-  lane-taken count s h = rw (lt-ltb s count h)
-
   lane-more : (t s : ℕ) → cond (eqb s t) (faultAt fs (from + t)) (laneFault fs from t s) ≡ laneFault fs from (t + 1) s
   unfolding laneFault
   lane-more t s = by-eq s t

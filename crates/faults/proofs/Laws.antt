@@ -1,6 +1,6 @@
 -- A row is opened for a line, and the fault is stored in its lanes.
 use mathlib.Core.Path.{_≡_, refl, ap, sym, _∙_}
-use mathlib.Core.Bool.{Bool, true, false, cond, _&&_}
+use mathlib.Core.Bool.{Bool, true, false, cond, and-false}
 use mathlib.Core.List.{List}
 use Prim.Native.Nat.{ℕ, suc, _+_, _*_, _<_, _≤_}
 use native.Mathlib.Omega.{arith}
@@ -30,10 +30,6 @@ set-zero ws i k l h = by-eq k i (λ e. rw e (getD-set-same ws i 0 0 l)) (λ e. g
 seen-other : (f : Fault) (n p v : ℕ) → isStuck f n p ≡ false → seen f n p v ≡ v
 unfolding seen
 seen-other f n p v e = rw e
-
-and-false : (b : Bool) → (b && false) ≡ false
-and-false true = refl
-and-false false = refl
 
 module _ (f : Fault) (n p : ℕ) where
   stuck-here : f .line ≡ n → f .pin ≡ p → isStuck f n p ≡ true

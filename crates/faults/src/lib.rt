@@ -1,5 +1,6 @@
 // The faults of the lanes, given and taken back: one fault in all lanes, or a group of the list's faults, one to a lane.
-// A line with a fault has a row of masks; giving touches the faults' own rows, and taking back just these.
+// A line with a fault has a row of masks. A group of so many faults uses at most as many rows, the first ones; taking it back clears these and the
+// bytes of its lines, and nothing else.
 ghost use mathlib.Core.Bool.{cond};
 ghost use mathlib.Core.Path.{_≡_};
 ghost use Prim.Native.Nat.{ℕ, _+_, _*_, _<_, _≤_};
@@ -21,6 +22,7 @@ pub fn give_all(hits: &mut [u8], masks: &mut [u64], line: usize, pin: usize, stu
     lanes::store(masks, 5 + pin, Lanes::all(stuck));
 }
 
+// That fault taken back.
 pub fn take_all(hits: &mut [u8], masks: &mut [u64], line: usize, pin: usize)
     requires { ⌜ (OnlyAt line pin (now hits) (now masks)) × (line < length (now hits)) × (MaskRoom (now masks)) × (pin < 5) ⌝ }
     ensures { λ _. ⌜ Blank (now (hits .exit)) (now (masks .exit)) ⌝ }
@@ -92,6 +94,7 @@ fn clear_rows(masks: &mut [u64], count: usize)
     }
 }
 
+// The group taken back.
 pub fn take_group(fs: &[u8], from: usize, count: usize, hits: &mut [u8], masks: &mut [u64])
     requires { ⌜ (Group (now fs) from count (length (now hits))) × (Given (now fs) from count (now hits) (now masks)) × (MaskRoom (now masks)) ⌝ }
     ensures { λ _. ⌜ Blank (now (hits .exit)) (now (masks .exit)) ⌝ }

@@ -58,6 +58,7 @@ fn respond(c: &[u8], job: Job, t: &[u8], fs: &[u8], result: &mut [u8])
     );
 }
 
+// What the outputs show, unit by unit; see README.md, Calls.
 pub fn simulate(
     circuit: &[u8],
     test: &[u8],

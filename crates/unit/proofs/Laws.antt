@@ -2,7 +2,7 @@
 use mathlib.Core.Path.{_≡_, refl, _∙_}
 use mathlib.Core.Bool.{Bool, true, cond}
 use mathlib.Core.List.{List, [], _∷_, _++_, map}
-use Prim.Native.Nat.{ℕ, zero, suc, _+_, _*_, _-_, _/_, _<_, _≤_}
+use Prim.Native.Nat.{ℕ, _+_, _*_, _/_, _<_, _≤_}
 use native.Mathlib.Omega.{arith}
 use native.Mathlib.Numerals.{add-one}
 use borrow.Author.Tests.{eq-eqb, ne-eqb}
@@ -10,7 +10,7 @@ use lib.ListN.{length, getD, set, take, length-map, length-take}
 use lib.Seq.{take-length}
 use Rattle.lists.specs.Scan.{countBelow, tabulate}
 use Rattle.lists.proofs.Scan.{getD-any, map-take, countBelow-less}
-use Rattle.model.specs.Inputs.{N, kind, pinCount, pinLine, isInput, isFlipFlop, isGate, I, F, flipFlops, flipFlopLine, Fault}
+use Rattle.model.specs.Inputs.{N, kind, pinCount, pinLine, isInput, isFlipFlop, I, F, flipFlops, flipFlopLine, Fault}
 use Rattle.model.specs.Accepted.{ValidCircuit}
 use Rattle.model.specs.Values.{X, evenGate, gate, invertIf, inverts}
 use Rattle.model.specs.Simulation.{isStuck, seen, pinSeen, pinsSeen, behind, valuesBelow, lineValues, nextState}

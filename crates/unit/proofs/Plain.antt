@@ -7,7 +7,7 @@ use Prim.Native.Nat.{ℕ, zero, suc, _+_, _/_, _≤_}
 use native.Mathlib.Omega.{arith}
 use native.Mathlib.Decide.{decLe}
 use Rattle.lists.specs.Scan.{tabulate}
-use Rattle.model.specs.Values.{invert, andPair, andOf, invertAll, orOf, evenGate, invertIf, inverts, gate}
+use Rattle.model.specs.Values.{invert, andPair, andOf, invertAll, orOf, evenGate, invertIf, inverts}
 use Rattle.lanes.specs.Lane.{is0, is1, Shows}
 use Rattle.lanes.proofs.Laws.{is-and, is0-inv, is1-inv}
 use Rattle.circuit.specs.Table.{pinRead}

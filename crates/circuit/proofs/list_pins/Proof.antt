@@ -4,7 +4,7 @@ use Prim.Native.Nat.{ℕ, _+_, _*_, _-_, _/_, _%_, _<_, _≤_}
 use native.Mathlib.Omega.{arith}
 use lib.ListN.{length, getD, length-set}
 use Rattle.model.specs.Inputs.{isGate}
-use Rattle.circuit.specs.Table.{pinNumber, PinTable}
+use Rattle.circuit.specs.Table.{pinNumber}
 use Rattle.circuit.proofs.Laws.{numbered-more}
 use Rattle.circuit.proofs.list_pins.Statement.{statement}
 use Rattle.circuit.proofs.list_pins.Tie as tie
