@@ -1,1 +1,2 @@
+-- What the records, sizes and tables stand for.
 pub mod Table

@@ -1,2 +1,2 @@
--- Laws of Simulate.
+-- Laws of the exported calls.
 pub mod Laws

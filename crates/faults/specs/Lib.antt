@@ -1,1 +1,2 @@
+-- What it means that lanes have faults, or none.
 pub mod Given

@@ -1,1 +1,2 @@
+-- What an accepted job is, and what a call returns.
 pub mod Job

@@ -1,1 +1,2 @@
+-- What a check says.
 pub mod Check

@@ -1,1 +1,2 @@
+-- What a run asks for and leaves.
 pub mod Run

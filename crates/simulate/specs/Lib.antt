@@ -1,1 +1,2 @@
+-- What Simulate asks for once its inputs are accepted.
 pub mod Simulate
