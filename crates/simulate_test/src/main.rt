@@ -1,7 +1,7 @@
 // Calls Simulate on every job of jobs.dat and prints what it answered and wrote. A job is five 16-bit numbers, the bytes of circuit,
 // test, faults, work area and result area, and then the bytes of circuit, test and faults. Both areas are filled with one byte first;
-// after the call `kept` says that no byte changed that may not: of the result area those past the result, of the work area none where
-// the call refused.
+// after the call `kept` says that the bytes that must stay have stayed: those of the result area past the result, and where the call
+// refused all of both areas.
 ghost use Prim.Native.Nat.{_+_, _<_, _≤_};
 ghost use lib.ListN.{length};
 use job::Outcome;
