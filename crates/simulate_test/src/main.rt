@@ -124,13 +124,13 @@ fn run_jobs(jobs: &[u8], work: &mut [u8], result: &mut [u8]) {
 }
 
 fn main() {
-    let mut jobs = [0u8; 131072];
+    let mut jobs = [0u8; 262144];
     let mut work = [0u8; 40960];
     let mut result = [0u8; 2048];
     let fd = os::open_read(b"jobs.dat");
     let size = io::read_full(fd, &mut jobs);
     libc::close(fd);
-    if 131072 < size {
+    if 262144 < size {
         return;
     }
     run_jobs(&jobs[..size], &mut work, &mut result);
