@@ -209,14 +209,18 @@ gradeJob c t fs p k work result e =
     }
 
 -- ---- a job that Choose accepts
-pub record ChooseJob (c t : List ℕ) : Type 0 where
+pub record ChooseJob (c t : List ℕ) (k : ℕ) : Type 0 where
   pub circuit : ValidCircuit c
   pub test : ValidTest c t
+  pub limit : k ≤ 12
 
-pub chooseJob : (c t fs : List ℕ) (k work result : ℕ) → chooseRefusal c t fs k work result ≡ none → ChooseJob c t
-unfolding chooseRefusal
+pub chooseJob : (c t fs : List ℕ) (k work result : ℕ) → chooseRefusal c t fs k work result ≡ none → ChooseJob c t k
+unfolding chooseRefusal row12
 chooseJob c t fs k work result e =
     let a = else-none (circuitRows c) _ e in
     let b = else-none (row7 c t) _ (a .1) in
     let d = else-none (row8 t) _ (b .1) in
-    record { circuit = validCircuit c (a .0); test = validTest c t (b .0) (d .0) }
+    let f = else-none (row9 1 1 fs) _ (d .1) in
+    let g = else-none (row10 c fs) _ (f .1) in
+    let h = else-none (row12 k) _ (g .1) in
+    record { circuit = validCircuit c (a .0); test = validTest c t (b .0) (d .0); limit = ltb-false 12 k (refuse-none _ 12 0 (h .0)) }

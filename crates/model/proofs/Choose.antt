@@ -1,16 +1,18 @@
 -- Each pair that Choose writes is the next after those before it, so Grade takes them all; where Choose stops early there is no next pair.
 use mathlib.Core.Path.{_≡_, refl, sym, ap, _∙_}
-use Prim.Native.Nat.{ℕ, zero, suc, _+_, _*_, _≤_, _<_}
-use mathlib.Core.Bool.{true}
+use Prim.Native.Nat.{ℕ, zero, suc, _+_, _*_, _%_, _≤_, _<_}
+use mathlib.Core.Bool.{true, false}
 use mathlib.Core.List.{List, [], _∷_, _++_}
 use mathlib.Core.Option.{Option, none, some, Option·none-ne-some}
 use lib.ListN.{getD, length, take, length-append, length-take, List·getD-append}
+use lib.Dec.{eqb, ltb}
 use lib.Seq.{take-append-le, take-at, getD-at, take-suc, take-length}
 use native.Mathlib.Omega.{arith}
 use native.Mathlib.Decide.{decLe}
-use borrow.Author.Tests.{lt-ltb}
+use borrow.Author.Tests.{lt-ltb, le-ltb, eq-eqb}
 use Rattle.lists.specs.Field.{word16, bytes16}
 use Rattle.model.specs.Inputs.{F, L, Fault, planCount, planPair}
+use Rattle.model.specs.Refusals.{refuse, row11}
 use Rattle.model.specs.Sequences.{takes, takeNext, takenOf, taken}
 use Rattle.model.specs.Grade.{Verdict, beforeStage5, placed, counted, grade}
 use Rattle.model.specs.Choose.{nextPair, withPair, bestPairs, unlessDecided, chosen, planBytes}
@@ -53,6 +55,13 @@ length-plan (q ∷ pairs) = omega (arith, length-plan pairs)
 plan-count : (pairs : List (ℕ × ℕ)) → planCount (planBytes pairs) ≡ length pairs
 unfolding planCount
 plan-count pairs = omega (arith, length-plan pairs)
+
+plan-accepted : (pairs : List (ℕ × ℕ)) → length pairs ≤ 4096 → row11 (planBytes pairs) ≡ none
+unfolding row11 refuse
+plan-accepted pairs h =
+    let whole : eqb (length (planBytes pairs) % 4) 0 ≡ true = eq-eqb (length (planBytes pairs) % 4) 0 (omega (arith, length-plan pairs)) in
+    let short : ltb 4096 (planCount (planBytes pairs)) ≡ false = le-ltb 4096 (planCount (planBytes pairs)) (omega (arith, plan-count pairs)) in
+    rw (whole, short)
 
 module _ (c t : List ℕ) (f : Fault) where
   -- each pair is the next after those before it
@@ -161,13 +170,15 @@ module _ (c t : List ℕ) (f : Fault) where
       grade-cases (λ (v : Verdict). v .m ≡ length (chosen c t f k)) c t f (planBytes (chosen c t f k)) k
       (λ v d. m-before v d ∙ sym (ap length (chosen-decided k v d))) (λ d. m-after _ k d ∙ ap length e)
 
-  pub well-chosen : (k : ℕ) → L c t ≤ 65536 → F c ≤ 65536 → WellChosen c t f k
+  pub well-chosen : (k : ℕ) → L c t ≤ 65536 → F c ≤ 65536 → k ≤ 4096 → WellChosen c t f k
   unfolding chosen Chain
-  well-chosen k a b =
+  well-chosen k a b most =
       let h : Chain (chosen c t f k) × (length (chosen c t f k) ≤ k) = chosen-chain k (beforeStage5 c t f) in
       let whole : taken c t f (planBytes (chosen c t f k)) k ≡ chosen c t f k =
       taken-plan (chosen c t f k) k (h .0) (chain-fields (chosen c t f k) a b (h .0)) (h .1) in
       record {
+        fits = h .1;
+        accepted = plan-accepted (chosen c t f k) (omega (arith, h .1));
         taken = whole;
         best = λ n l u i e. nextPair-best c t f (take n (chosen c t f k)) _ (h .0 n l) u i e;
         decided = chosen-decided k;

@@ -53,8 +53,8 @@ own-fault c t fs gs p k work room old held e d j i h l same =
 -- Choose's pairs, for every job that it accepts
 pub chosen-well : (c t fs : List ℕ) (k work result : ℕ) → chooseRefusal c t fs k work result ≡ none → WellChosen c t (faultAt fs 0) k
 chosen-well c t fs k work result e =
-    let job : ChooseJob c t = chooseJob c t fs k work result e in
-    well-chosen c t (faultAt fs 0) k (omega (arith, job .test .most)) (omega (arith, job .circuit .flipFlops))
+    let job : ChooseJob c t k = chooseJob c t fs k work result e in
+    well-chosen c t (faultAt fs 0) k (omega (arith, job .test .most)) (omega (arith, job .circuit .flipFlops)) (omega (arith, job .limit))
 
 -- the fault-free circuit has no stuck line or pin: `noFault` names no line of a circuit that is accepted
 pub fault-free : (c : List ℕ) → circuitRows c ≡ none → (n pin : ℕ) → n < N c → isStuck noFault n pin ≡ false

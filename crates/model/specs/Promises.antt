@@ -9,7 +9,7 @@ use mathlib.Core.Option.{none, some}
 use lib.ListN.{getD, length, take, drop}
 use lib.Dec.{eqb}
 use Rattle.model.specs.Inputs.{Fault, faultCount, faultAt}
-use Rattle.model.specs.Refusals.{gradeRefusal}
+use Rattle.model.specs.Refusals.{row11, gradeRefusal}
 use Rattle.model.specs.Starts.{freeBits, startCount, differs}
 use Rattle.model.specs.Sequences.{takes, taken}
 use Rattle.model.specs.Grade.{Verdict, recordAt, beforeStage5, grade}
@@ -68,10 +68,12 @@ pub record InBounds (k : ℕ) (v : Verdict) : Type 0 where
 abbrev pub recordPart : List ℕ → ℕ → List ℕ
 recordPart area j = take 16 (drop (16 * j) area)
 
--- Of the pairs that Choose writes. Every one is taken by Grade with the same k and just these pairs as the plan. None that could be taken in
--- its place is better. None is written for verdicts 1, 2, 5. Grade's record carries their number as m. Choose stops early only when no pair
--- could be taken.
+-- Of the pairs that Choose writes. It writes up to k plan records, and Grade accepts them as a plan. Every pair is taken by Grade with the
+-- same k and just these pairs as the plan. None that could be taken in its place is better. None is written for verdicts 1, 2, 5. Grade's
+-- record carries their number as m. Choose stops early only when no pair could be taken.
 pub record WellChosen (c t : List ℕ) (f : Fault) (k : ℕ) : Type 0 where
+  pub fits : length (chosen c t f k) ≤ k
+  pub accepted : row11 (planBytes (chosen c t f k)) ≡ none
   pub taken : taken c t f (planBytes (chosen c t f k)) k ≡ chosen c t f k
   pub best : (n : ℕ) → n < length (chosen c t f k) → (u i : ℕ) → takes c t f (take n (chosen c t f k)) u i ≡ true
       → better c t f u i (getD (chosen c t f k) n (0, 0) .0) (getD (chosen c t f k) n (0, 0) .1) ≡ false
