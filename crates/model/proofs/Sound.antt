@@ -2,7 +2,7 @@
 -- stands against every verdict from 1 to 4, stage by stage.
 use mathlib.Core.Path.{_≡_, refl, sym, _∙_}
 use Prim.Native.Nat.{ℕ, zero, suc, _+_, _-_, _*_, _/_, _%_, _^_, _≤_, _<_}
-use mathlib.Core.Bool.{Bool, true, false, cond, _&&_, false≢true}
+use mathlib.Core.Bool.{true, false, cond, _&&_, false≢true}
 use mathlib.Core.List.{List, [], _∷_, _++_}
 use lib.ListN.{getD, length, length-take, length-drop}
 use lib.Dec.{eqb, ltb}
@@ -17,7 +17,7 @@ use Rattle.model.specs.Values.{X, giveRow, someOppose}
 use Rattle.model.specs.Simulation.{lineValues, outputs, nextState, powerUp, stateAt, valuesAt, outputsAt, plainState, plainValues, plainOutputs, freeValues, freeOutputs}
 use Rattle.model.specs.Starts.{bits, startingState, differs}
 use Rattle.model.specs.Implication.{nothing, impliedAt, marked, extra}
-use Rattle.model.specs.Expansion.{countOpen, nsv, openPlaces, nout, tried, bothMarked, alone, written, rowAfter, opposedWrite, stateRow}
+use Rattle.model.specs.Expansion.{countOpen, nsv, openPlaces, nout, bothOpen, tried, bothMarked, alone, written, rowAfter, opposedWrite, stateRow}
 use Rattle.model.specs.Sequences.{takes, takeNext, takenOf, taken, sequenceRow, ending, endOf, countEnding, endsSurviving}
 use Rattle.model.specs.Grade.{opposedAt}
 use Rattle.lists.proofs.Tests.{and-left, and-right, and-fails, or-cases, cond-cases, clash, is-false, is-true}
@@ -328,17 +328,13 @@ module _ (c t : List ℕ) (f : Fault) (a : Accepted c t f) where
   unfolding nsv plainState stateAt powerUp
   nsv-start = countX-unknown (F c)
 
-  bothOpen : ℕ → Bool
-  bothOpen u = ltb 0 (nsv c t f u) && ltb 0 (nout c t f u)
-
   module _ (unopposed : (u n : ℕ) → u < L c t → n < N c → opposedAt c t f u n ≡ false) where
     plain-alike : (u : ℕ) → u < L c t → someOppose (freeOutputs c t u) (plainOutputs c t f u) ≡ false
     plain-alike u h = outputs-opposed u ∙ anyBelow-none (λ n. opposedAt c t f u n) (N c) (λ n k. unopposed u n h k)
 
-    closed : anyBelow (λ u. ltb 0 (nsv c t f u) && ltb 0 (nout c t f u)) (L c t) ≡ false → 0 < F c → nout c t f 0 ≡ 0
+    closed : anyBelow (λ u. bothOpen c t f u) (L c t) ≡ false → 0 < F c → nout c t f 0 ≡ 0
     closed e h =
-        let z : ltb 0 (nsv c t f 0) && ltb 0 (nout c t f 0) ≡ false =
-        anyBelow-false (λ u. ltb 0 (nsv c t f u) && ltb 0 (nout c t f u)) (L c t) 0 e (a .units) in
+        let z : bothOpen c t f 0 ≡ false = anyBelow-false (λ u. bothOpen c t f u) (L c t) 0 e (a .units) in
         let l : nout c t f 0 ≤ 0 = ltb-false 0 (nout c t f 0) (and-fails _ _ z (lt-ltb 0 (nsv c t f 0) (omega (arith, nsv-start)))) in
         omega arith
 
@@ -347,7 +343,7 @@ module _ (c t : List ℕ) (f : Fault) (a : Accepted c t f) where
     unfolding plainOutputs powerUp startingState bits
     no-flip-flop s u e = rw e
 
-    pub stage2-sound : anyBelow (λ u. ltb 0 (nsv c t f u) && ltb 0 (nout c t f u)) (L c t) ≡ false → (s : ℕ) → differs c t f s ≡ false
+    pub stage2-sound : anyBelow (λ u. bothOpen c t f u) (L c t) ≡ false → (s : ℕ) → differs c t f s ≡ false
     unfolding differs
     stage2-sound e s = anyBelow-none (λ u. someOppose (freeOutputs c t u) (outputsAt c t f (startingState c s) u)) (L c t) (λ u h.
         elim (decLe 1 (F c)) [

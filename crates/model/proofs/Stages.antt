@@ -1,14 +1,14 @@
 -- The verdict of a fault is given by one of the six stages: what holds of each stage's verdict holds of Grade's.
 use mathlib.Core.Path.{_≡_, refl, subst}
 use Prim.Native.Nat.{ℕ, _<_}
-use mathlib.Core.Bool.{Bool, true, false, not, _&&_}
+use mathlib.Core.Bool.{Bool, true, false, not}
 use mathlib.Core.List.{List}
 use mathlib.Core.Option.{Option, none, some, Option·some-injective, Option·none-ne-some, Option·some-ne-none}
-use lib.Dec.{eqb, leb, ltb}
+use lib.Dec.{eqb, leb}
 use Rattle.lists.specs.Scan.{orGiven, first, firstPair, anyBelow}
 use Rattle.model.specs.Inputs.{N, flipFlopLine, F, L, Fault}
 use Rattle.model.specs.Starts.{freeBits, startCount, differs}
-use Rattle.model.specs.Expansion.{nsv, nout, bothMarked, opposedWrite}
+use Rattle.model.specs.Expansion.{bothOpen, bothMarked, opposedWrite}
 use Rattle.model.specs.Sequences.{taken, countEnding, endsSurviving}
 use Rattle.model.specs.Grade.{Verdict, placed, opposedAt, stage1, stage2, atPair, stage3, stage4, beforeStage5, counted, stage5, fromStart, stage6, grade}
 use Rattle.lists.proofs.Tests.{cond-cases}
@@ -33,7 +33,7 @@ module _ (Q : Verdict → Type 0) where
   module _ (c t : List ℕ) (f : Fault)
       (one : (u n : ℕ) → Found (λ u n. opposedAt c t f u n) (L c t) (N c) u n → Q (placed 1 u n))
       (two : ((u n : ℕ) → u < L c t → n < N c → opposedAt c t f u n ≡ false)
-      → anyBelow (λ u. ltb 0 (nsv c t f u) && ltb 0 (nout c t f u)) (L c t) ≡ false → Q (placed 5 0 0))
+      → anyBelow (λ u. bothOpen c t f u) (L c t) ≡ false → Q (placed 5 0 0))
       (three : (u i : ℕ) → Found (λ u i. bothMarked c t f u i) (L c t) (F c) u i → Q (placed 2 u (flipFlopLine c i)))
       (four : (u i : ℕ) → Found (λ u i. opposedWrite c t f u i) (L c t) (F c) u i → Q (placed 2 u (flipFlopLine c i))) where
     stage1-case : (v : Verdict) → stage1 c t f ≡ some v → Q v

@@ -33,6 +33,10 @@ module _ (c t : List ℕ) (f : Fault) where
   unfoldable pub nout : ℕ → ℕ
   nout u = openPlaces u (L c t - u)
 
+  -- both are above 0
+  abbrev pub bothOpen : ℕ → Bool
+  bothOpen u = ltb 0 (nsv u) && ltb 0 (nout u)
+
   -- stage 3 tries the pair: u from 1, where the bit is X and Nout(u - 1) > 0
   unfoldable pub tried : ℕ → ℕ → Bool
   tried zero i = false

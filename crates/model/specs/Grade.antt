@@ -4,7 +4,7 @@ use mathlib.Core.Bool.{Bool, cond, not, _&&_}
 use mathlib.Core.List.{List, _∷_, _++_}
 use mathlib.Core.Option.{Option, none, some}
 use lib.ListN.{getD, length}
-use lib.Dec.{eqb, leb, ltb}
+use lib.Dec.{eqb, leb}
 use Rattle.lists.specs.Scan.{_else_, orGiven, first, firstPair, anyBelow, gather}
 use Rattle.lists.specs.Field.{word16, bytes16, overwritten}
 use Rattle.model.specs.Inputs.{N, isOutput, flipFlopLine, F, L, Fault, faultCount, faultAt}
@@ -12,7 +12,7 @@ use Rattle.model.specs.Refusals.{Answer, answer, unlessRefused, gradeRef
 use Rattle.model.specs.Values.{opposes}
 use Rattle.model.specs.Simulation.{noFault, shown, plainValues, freeValues}
 use Rattle.model.specs.Starts.{freeBits, startCount, differs}
-use Rattle.model.specs.Expansion.{nsv, nout, bothMarked, opposedWrite}
+use Rattle.model.specs.Expansion.{bothOpen, bothMarked, opposedWrite}
 use Rattle.model.specs.Sequences.{taken, countEnding, endsSurviving, endsDiffering, endsClashing}
 
 pub record Verdict : Type 0 where
@@ -45,7 +45,7 @@ module _ (c t : List ℕ) (f : Fault) where
 
   -- No u has both above 0: verdict 5.
   unfoldable pub stage2 : Option Verdict
-  stage2 = cond (anyBelow (λ u. ltb 0 (nsv c t f u) && ltb 0 (nout c t f u)) (L c t)) none (some (placed 5 0 0))
+  stage2 = cond (anyBelow (λ u. bothOpen c t f u) (L c t)) none (some (placed 5 0 0))
 
   -- First pair with both marked: verdict 2, with u and the flip-flop's line.
   unfoldable pub stage3 : Option Verdict
