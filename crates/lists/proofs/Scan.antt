@@ -44,13 +44,6 @@ unfolding _else_
 else-skips none b e = refl
 else-skips (some a) b e = absurd (Option·some-ne-none a e)
 
--- the first of two, into any family: the second is asked only where the first is none
-pub else-cases {ℓ} : {A : Type 0} (P : Option A → Type ℓ) (a b : Option A)
-    → ((m : A) → a ≡ some m → P (some m)) → (a ≡ none → P b) → P (a else b)
-unfolding _else_
-else-cases P none b f g = g refl
-else-cases P (some m) b f g = f m refl
-
 pub given-cases {ℓ} : {A : Type 0} (P : A → Type ℓ) (o : Option A) (a : A) → ((m : A) → o ≡ some m → P m) → (o ≡ none → P a) → P (orGiven o a)
 unfolding orGiven
 given-cases P none a f g = g refl
