@@ -1,8 +1,9 @@
 -- The specimens of document 01, computed.
 use mathlib.Core.Path.{_≡_, refl}
 use mathlib.Core.List.{[], _∷_, map}
+use Rattle.model.specs.Grade.{eightFields}
 use Rattle.model.specs.Listing.{printed}
-use Rattle.model.specs.Specimens.{specimenA, faultsOfA, eightFields, gradedSpecimens, elevenVerdicts, printOfA}
+use Rattle.model.specs.Specimens.{specimenA, faultsOfA, gradedSpecimens, elevenVerdicts, printOfA}
 use Rattle.model.proofs.Computed.{computes}
 
 -- the eleven verdicts, as one theorem over their list: all eight fields of each record, whose last 16 bits are always 0

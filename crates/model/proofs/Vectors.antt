@@ -4,9 +4,9 @@ use mathlib.Core.Path.{_≡_, refl}
 use Prim.Native.Nat.{ℕ}
 use mathlib.Core.List.{List, [], _∷_}
 use Rattle.model.specs.Inputs.{Fault}
-use Rattle.model.specs.Grade.{grade}
+use Rattle.model.specs.Grade.{eightFields, grade}
 use Rattle.model.specs.Choose.{chosen, planBytes}
-use Rattle.model.specs.Specimens.{circuitOf, stuckAt, eightFields}
+use Rattle.model.specs.Specimens.{circuitOf, stuckAt}
 use Rattle.model.proofs.Computed.{computes}
 
 -- what Grade gives for one fault

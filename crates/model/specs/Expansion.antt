@@ -33,7 +33,7 @@ module _ (c t : List ℕ) (f : Fault) where
   unfoldable pub nout : ℕ → ℕ
   nout u = openPlaces u (L c t - u)
 
-  -- both are above 0
+  -- Nsv(u) and Nout(u) are both above 0
   abbrev pub bothOpen : ℕ → Bool
   bothOpen u = ltb 0 (nsv u) && ltb 0 (nout u)
 

@@ -1,7 +1,7 @@
 -- Grade: six stages for each fault. The stages go in order, and the first that gives a verdict ends that fault's work.
 use Prim.Native.Nat.{ℕ, _+_, _*_}
 use mathlib.Core.Bool.{Bool, cond, not, _&&_}
-use mathlib.Core.List.{List, _∷_, _++_}
+use mathlib.Core.List.{List, [], _∷_, _++_}
 use mathlib.Core.Option.{Option, none, some}
 use lib.ListN.{getD, length}
 use lib.Dec.{eqb, leb}
@@ -24,6 +24,10 @@ pub record Verdict : Type 0 where
   pub clashing : ℕ
   pub surviving : ℕ
   pub start : ℕ
+
+-- the record's first eight fields
+unfoldable pub eightFields : Verdict → List ℕ
+eightFields v = v .verdict ∷ v .m ∷ v .time ∷ v .line ∷ v .differing ∷ v .clashing ∷ v .surviving ∷ v .start ∷ []
 
 -- fields not named for a verdict are 0
 unfoldable pub placed : ℕ → ℕ → ℕ → Verdict

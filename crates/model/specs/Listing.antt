@@ -8,7 +8,7 @@ use lib.Dec.{ltb}
 use Rattle.lists.specs.Scan.{_else_, orGiven, gather}
 use Rattle.model.specs.Inputs.{Fault, faultCount, faultAt}
 use Rattle.model.specs.Refusals.{Refusal, gradeRefusal}
-use Rattle.model.specs.Grade.{Verdict, recordAt, gradeBytes}
+use Rattle.model.specs.Grade.{Verdict, eightFields, recordAt, gradeBytes}
 use Rattle.model.specs.Group.{groupOf}
 
 -- a number in decimal, as bytes: at most so many digits
@@ -29,10 +29,7 @@ numberLine (n ∷ m ∷ ns) = decimal n ++ (32 ∷ numberLine (m ∷ ns))
 
 -- per fault: line, pin, value, the record's first eight fields, group
 unfoldable pub faultLine : Fault → Verdict → ℕ → List ℕ
-faultLine f v group =
-    numberLine
-    (f .line ∷ f .pin ∷ f .value
-    ∷ v .verdict ∷ v .m ∷ v .time ∷ v .line ∷ v .differing ∷ v .clashing ∷ v .surviving ∷ v .start ∷ group ∷ [])
+faultLine f v group = numberLine (f .line ∷ f .pin ∷ f .value ∷ eightFields v ++ (group ∷ []))
 
 -- `refused NUMBER POSITION`
 unfoldable pub refusedLine : ℕ → ℕ → List ℕ

@@ -36,10 +36,6 @@ specimenD = circuitOf ((0, 0, []) ∷ (1, 0, 1 ∷ []) ∷ (3, 0, 1 ∷ []) ∷ 
 unfoldable pub stuckAt : ℕ → ℕ → ℕ → Fault
 stuckAt line pin value = record { line = line; pin = pin; value = value }
 
--- a record's first eight fields
-unfoldable pub eightFields : Verdict → List ℕ
-eightFields v = v .verdict ∷ v .m ∷ v .time ∷ v .line ∷ v .differing ∷ v .clashing ∷ v .surviving ∷ v .start ∷ []
-
 unfoldable pub gradedSpecimens : List Verdict
 gradedSpecimens =
     -- A (0,0,1)
