@@ -1,6 +1,6 @@
 -- The gates in one lane, and words stored and read.
 use mathlib.Core.Path.{_≡_, refl, sym, _∙_, ap}
-use mathlib.Core.Bool.{Bool, true, false, cond, _&&_, _||_, true≢false}
+use mathlib.Core.Bool.{Bool, true, false, cond, _&&_, _||_, true≢false, or-false}
 use mathlib.Core.List.{List, [], _∷_, _++_}
 use Prim.Native.Nat.{ℕ, zero, suc, _/_, _+_, _*_, _%_, _^_, _<_, _≤_}
 use native.Mathlib.Omega.{arith}
@@ -10,7 +10,7 @@ use borrow.Author.Tests.{eqb-true, eq-eqb}
 use lib.ListN.{getD, length, set, length-set, length-append, List·getD-append}
 use lib.Seq.{getD-at, getD-set-same, getD-set-other}
 use lib.Bits.{bitAnd, bitOr, bitXor}
-use Rattle.lists.proofs.Tests.{by-test, or-false}
+use Rattle.lists.proofs.Tests.{by-test}
 use Rattle.model.specs.Values.{invert, andPair, xorPair, andOf, orOf, invertAll, xorOf, evenGate, invertIf, opposes}
 use Rattle.lanes.specs.Lane.{bit, is0, is1, Shows, At, Lane}
 use Rattle.lanes.proofs.Bits.{bit-and, bit-or, bit-xor, bit-none, bit-all, bit-one, xorB, other-odd, other-even}

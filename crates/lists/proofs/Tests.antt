@@ -47,11 +47,3 @@ is-true false h = absurd (h refl)
 pub by-test : {A : Type 0} (t : Bool) → (t ≡ true → A) → (t ≡ false → A) → A
 by-test true f g = f refl
 by-test false f g = g refl
-
-pub or-false : (t : Bool) → (t || false) ≡ t
-or-false true = refl
-or-false false = refl
-
-pub or-assoc : (r s t : Bool) → ((r || s) || t) ≡ (r || (s || t))
-or-assoc true s t = refl
-or-assoc false s t = refl

@@ -2,7 +2,7 @@
 use mathlib.Core.Path.{_≡_, refl, sym, ap, _∙_}
 use Prim.Native.Nat.{ℕ, zero, suc, _/_, _%_}
 use mathlib.Core.Bool.{Bool, true, false, cond, _&&_, _||_, or-false, or-assoc}
-use mathlib.Core.List.{List, [], _∷_, _++_, map}
+use mathlib.Core.List.{List, [], _∷_, _++_, map, map-append}
 use lib.ListN.{getD, length, set, replicate}
 use lib.Dec.{eqb}
 use native.Mathlib.Omega.{arith}
@@ -94,10 +94,6 @@ someOppose-append [] (y ∷ ys) vs bs l = absurd (let z : ⊥ = omega arith in z
 someOppose-append (x ∷ xs) [] vs bs l = absurd (let z : ⊥ = omega arith in z)
 someOppose-append (x ∷ xs) (y ∷ ys) vs bs l =
     rw (someOppose-append xs ys vs bs (omega arith)) (sym (or-assoc (opposes x y) (someOppose xs ys) (someOppose vs bs)))
-
-map-append : (g : ℕ → ℕ) (xs ys : List ℕ) → map g (xs ++ ys) ≡ map g xs ++ map g ys
-map-append g [] ys = refl
-map-append g (x ∷ xs) ys = ap (_∷_ (g x)) (map-append g xs ys)
 
 length-mapped : (g h : ℕ → ℕ) (xs : List ℕ) → length (map g xs) ≡ length (map h xs)
 length-mapped g h [] = refl

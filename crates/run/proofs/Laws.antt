@@ -1,7 +1,7 @@
 -- What one turn of each loop adds.
 use mathlib.Core.Path.{_≡_, refl, sym, ap, _∙_}
 use Prim.Native.Nat.{ℕ, zero, suc, _+_, _-_, _*_, _<_, _≤_}
-use mathlib.Core.Bool.{Bool, true, false, _&&_, _||_, and-comm}
+use mathlib.Core.Bool.{Bool, true, false, _&&_, _||_, and-comm, or-false, or-assoc}
 use mathlib.Core.List.{List, [], _∷_, _++_, append-assoc}
 use lib.Bits.{bitAnd, bitOr}
 use lib.ListN.{getD, length, set, take, drop, length-append, length-drop, length-map, getD-replicate, length-replicate, List·getD-map}
@@ -11,7 +11,7 @@ use native.Mathlib.Omega.{arith}
 use native.Mathlib.Nat.{mul-le-mul, mul-le-mul-left, mul-suc, mul-comm}
 use Rattle.lists.specs.Scan.{anyBelow, gather}
 use Rattle.lists.proofs.Scan.{All, all-at, select-all, length-select, length-gather, gather-turn, getD-any, anyBelow-more, countBelow-bound}
-use Rattle.lists.proofs.Tests.{and-left, by-test, or-false, or-assoc}
+use Rattle.lists.proofs.Tests.{and-left, by-test}
 use Rattle.model.specs.Inputs.{N, I, F, O, L, isInput, isOutput, outputLines, inputsAt, Fault}
 use Rattle.model.specs.Accepted.{ValidCircuit, ValidTest, ThreeValued}
 use Rattle.model.specs.Values.{X, opposes, someOppose}
