@@ -1,5 +1,5 @@
 -- Scans over the numbers below a bound: the first that passes a test, whether any does, how many do, which do; and lists made of them.
--- All but `tabulate` look at the highest number last, as a loop does.
+-- All have the highest number last, as a loop does; `tabulate` recurses from the front, the others from the back.
 use Prim.Native.Nat.{ℕ, zero, suc, _+_}
 use mathlib.Core.Bool.{Bool, false, cond, _||_}
 use mathlib.Core.List.{List, [], _∷_, _++_}

@@ -1,4 +1,5 @@
--- The theorems, for every accepted job. What each says is defined in specs/Promises.
+-- The theorems, for every accepted job. What `in-bounds`, `demand-three` and `chosen-well` say is defined in specs/Promises; `reads-back`,
+-- `own-fault` and `fault-free` are stated here alone.
 use mathlib.Core.Path.{_≡_, sym, ap, _∙_}
 use Prim.Native.Nat.{ℕ, _<_}
 use mathlib.Core.List.{List}

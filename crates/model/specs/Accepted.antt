@@ -1,4 +1,5 @@
--- What acceptance gives: the facts that functions below the calls ask for, derived once in proofs/Accepted.
+-- Facts that functions below the calls ask for. Those of circuit, test and fault are what acceptance gives, derived once in
+-- proofs/Accepted; that a row has no value but 0, 1 and X is no consequence of it, and is derived of runs in proofs/ThreeValued.
 use mathlib.Core.Path.{_≡_}
 use Prim.Native.Nat.{ℕ, suc, _*_, _≤_, _<_}
 use mathlib.Core.Bool.{true}
