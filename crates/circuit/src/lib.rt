@@ -31,6 +31,7 @@ pub fn wide(x: u8) -> usize
     x as usize
 }
 
+// A number of the table of pins, likewise.
 pub fn wide_number(x: u16) -> usize
     ensures { λ r. ⌜ r ≡ x ⌝ }
 {

@@ -12,7 +12,8 @@ use Rattle.model.specs.Inputs.{N, faultCount, faultAt}
 use Rattle.model.specs.Accepted.{ValidCircuit, ValidFault}
 use Rattle.model.specs.Simulation.{noFault}
 use Rattle.faults.specs.Given.{Blank, InRows, Group, laneFault, Named, Given}
-use Rattle.faults.proofs.Laws.{by-eq, set-zero, blank-stuck, blank-rows}
+use Rattle.lists.proofs.Tests.{by-eq}
+use Rattle.faults.proofs.Laws.{set-zero, blank-stuck, blank-rows}
 
 -- faults of an accepted list
 pub valid-group : (c fs : List ℕ) (from count lines : ℕ) → ValidCircuit c → ((j : ℕ) → j < faultCount fs → ValidFault c (faultAt fs j)) → from + count ≤ faultCount fs

@@ -5,11 +5,11 @@ use mathlib.Core.List.{List}
 use Prim.Native.Nat.{ℕ, suc, _+_, _*_, _<_, _≤_}
 use native.Mathlib.Omega.{arith}
 use native.Mathlib.Decide.{decLe}
-use borrow.Author.Tests.{eq-eqb, ne-eqb, eqb-true, eqb-false}
+use borrow.Author.Tests.{eq-eqb, ne-eqb, eqb-true}
 use lib.Dec.{eqb}
 use lib.ListN.{length, getD, set, length-set, replicate, length-replicate, getD-replicate, List·getD-eq-default}
 use lib.Seq.{getD-set-same, getD-set-other}
-use Rattle.lists.proofs.Tests.{by-test}
+use Rattle.lists.proofs.Tests.{by-test, by-eq}
 use Rattle.model.specs.Inputs.{Fault}
 use Rattle.model.specs.Values.{X}
 use Rattle.model.specs.Simulation.{noFault, isStuck, seen}
@@ -17,10 +17,6 @@ use Rattle.lanes.specs.Lane.{Shows}
 use Rattle.lanes.proofs.Laws.{shows-x}
 use Rattle.unit.specs.Unit.{Stuck}
 use Rattle.faults.specs.Given.{Blank, OnlyAt, InRows}
-
--- a case on two numbers
-pub by-eq : {A : Type 0} (m n : ℕ) → (m ≡ n → A) → ((m ≡ n → ⊥) → A) → A
-by-eq m n f g = by-test (eqb m n) (λ y. f (eqb-true m n y)) (λ y. g (eqb-false m n y))
 
 -- a 0 is stored
 pub set-zero : (ws : List ℕ) (i k : ℕ) → i < length ws → ((k ≡ i → ⊥) → getD ws k 0 ≡ 0) → getD (set ws i 0) k 0 ≡ 0

@@ -6,6 +6,7 @@ use native.Mathlib.Omega.{arith}
 use native.Mathlib.Decide.{decLe}
 use native.Mathlib.Nat.{zero-div}
 use lib.Dec.{eqb}
+use Rattle.lists.proofs.Tests.{and-left, and-right}
 use lib.Bits.{bitAnd, bitOr, bitXor, differ, and-shr, or-shr, xor-shr, and-step, or-step, xor-step, xor-zero-r}
 use Rattle.lanes.specs.Lane.{bit}
 
@@ -66,16 +67,12 @@ every : (ℕ → Bool) → ℕ → Bool
 every test zero = true
 every test (suc n) = test n && every test n
 
-both-true : (a b : Bool) → (a && b) ≡ true → (a ≡ true) × (b ≡ true)
-both-true true b e = (refl, e)
-both-true false b e = let z : _≡_ {A = ℕ} 0 1 = cc in absurd (omega arith)
-
 every-at : (test : ℕ → Bool) (n t : ℕ) → every test n ≡ true → t < n → test t ≡ true
 unfolding every
 every-at test zero t e h = absurd (let z : ⊥ = omega arith in z)
 every-at test (suc n) t e h = elim (decLe (suc t) n) [
-  | yes g ↦ every-at test n t (both-true (test n) (every test n) e .1) g
-  | no g ↦ (let q : t ≡ n = omega arith in rw q (both-true (test n) (every test n) e .0))
+  | yes g ↦ every-at test n t (and-right (test n) (every test n) e) g
+  | no g ↦ (let q : t ≡ n = omega arith in rw q (and-left (test n) (every test n) e))
 ]
 
 pub bit-all : (t : ℕ) → t < 64 → bit t 0xffffffffffffffff ≡ true

@@ -1,5 +1,8 @@
 -- Laws of tests: what a conjunction or a disjunction tells of its parts, and cases on a test.
 use mathlib.Core.Path.{_≡_, refl, sym, _∙_}
+use Prim.Native.Nat.{ℕ}
+use lib.Dec.{eqb}
+use borrow.Author.Tests.{eqb-true, eqb-false}
 use mathlib.Core.Bool.{Bool, true, false, cond, _&&_, _||_, false≢true, true≢false}
 
 pub and-left : (s t : Bool) → s && t ≡ true → s ≡ true
@@ -47,3 +50,7 @@ is-true false h = absurd (h refl)
 pub by-test : {A : Type 0} (t : Bool) → (t ≡ true → A) → (t ≡ false → A) → A
 by-test true f g = f refl
 by-test false f g = g refl
+
+-- a case on two numbers
+pub by-eq : {A : Type 0} (m n : ℕ) → (m ≡ n → A) → ((m ≡ n → ⊥) → A) → A
+by-eq m n f g = by-test (eqb m n) (λ y. f (eqb-true m n y)) (λ y. g (eqb-false m n y))

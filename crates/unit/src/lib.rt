@@ -35,7 +35,7 @@ fn pin_lanes(c: &[u8], masks: &[u64], words: &[u64], n: usize, p: usize, row: us
     seen_at(masks, row, p, lanes::read(words, m))
 }
 
-// Gate n, of kind k.
+// Gate n, of kind k, by its record: of any kind, with a fault at it or none.
 fn gate_lanes(c: &[u8], masks: &[u64], words: &[u64], n: usize, k: u8, row: usize) -> Lanes
     requires { ⌜ (ValidCircuit (now c)) × (n < N (now c)) × (k ≡ kind (now c) n) × (2 ≤ k) × (MaskRoom (now masks)) × (row < 256) × (Room n (now words)) ⌝ }
     ensures { λ r. ⌜ ((t : ℕ) (f : Fault) (vs : List ℕ) → StuckAt t (now (masks .entry)) row f n → Lane t (now (words .entry)) vs → length vs ≡ n → Holds t r (gate k (pinsSeen (now (c .entry)) f vs n))) ⌝ }
@@ -86,7 +86,7 @@ fn and_gate(c: &[u8], table: &[u16], words: &[u64], n: usize, k: u8) -> Lanes
     }
 }
 
-// Gate n, of kind k. Most gates have no fault and are no XOR.
+// Gate n, of kind k. Most gates have no fault at them and are no XOR.
 fn any_gate(
     c: &[u8],
     table: &[u16],
