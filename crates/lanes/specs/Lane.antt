@@ -29,7 +29,7 @@ pub record Shows (t z o v : ℕ) : Type 0 where
 abbrev pub Holds : ℕ → Lanes → ℕ → Type 0
 Holds t x v = Shows t (x .zeros) (x .ones) v
 
--- Lane t holds v at place m of a list of words, two to a place. This definition alone says how words are laid out.
+-- Lane t holds v at place m of a list of words, two to a place. How words are laid out is said here, and in `stored` and `Room` below.
 abbrev pub At : ℕ → List ℕ → ℕ → ℕ → Type 0
 At t words m v = Shows t (getD words (2 * m) 0) (getD words (2 * m + 1) 0) v
 
