@@ -15,14 +15,14 @@ fn detect(c: &[u8], job: Job, t: &[u8], fs: &[u8], free: &[u8]) -> u64
     requires { ⌜ (Accepted (now c) (now t) 64 (now fs)) × (JobOf (now c) (now t) job) × (L (now c) (now t) * O (now c) ≤ length (now free)) ⌝ }
     ensures { λ r. ⌜ ((j : ℕ) → j < 64 → bit j r ≡ opposed (now (c .entry)) (now (t .entry)) (now (free .entry)) (laneFault (now (fs .entry)) 0 (faultCount (now (fs .entry))) j)) ⌝ }
 {
-    let mut table = [0u16; 16384];
+    let mut pins = [0u16; 16384];
     let mut flops = [0usize; 256];
     let mut outs = [0usize; 256];
     let mut hits = [0u8; 4096];
     let mut masks = [0u64; 2560];
     let mut words = [0u64; 8192];
     let mut state = [0u64; 512];
-    circuit::list_pins(c, job.lines, &mut table);
+    circuit::list_pins(c, job.lines, &mut pins);
     circuit::list_flops(c, job.lines, &mut flops);
     circuit::list_outputs(c, job.lines, &mut outs);
     faults::give_group(fs, 0, fs.len() / 4, &mut hits, &mut masks);
@@ -34,7 +34,7 @@ fn detect(c: &[u8], job: Job, t: &[u8], fs: &[u8], free: &[u8]) -> u64
         job.units,
         free,
         0xffff_ffff_ffff_ffff,
-        &table,
+        &pins,
         &flops,
         &outs,
         &hits,

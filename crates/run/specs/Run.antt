@@ -12,11 +12,11 @@ use Rattle.job.specs.declared.Job.{Job}
 use Rattle.unit.specs.Unit.{MaskRoom}
 
 -- What a run of a job asks for: circuit, test and sizes, the tables of pins, flip-flops and outputs, and room for faults, lines and states.
-pub record Runnable (c t : List ℕ) (job : Job) (table flops outs hits masks words state : List ℕ) : Type 0 where
+pub record Runnable (c t : List ℕ) (job : Job) (pins flops outs hits masks words state : List ℕ) : Type 0 where
   pub circuit : ValidCircuit c
   pub test : ValidTest c t
   pub sizes : JobOf c t job
-  pub pinTable : PinTable c table
+  pub pinTable : PinTable c pins
   pub flopTable : Listed (flipFlops c) flops
   pub outputTable : Listed (outputLines c) outs
   pub hitRoom : N c ≤ length hits

@@ -20,7 +20,7 @@ use lanes::Lanes;
 // The values of all lines at unit u of a test, from the state there.
 pub fn values_at(
     c: &[u8],
-    table: &[u16],
+    pins: &[u16],
     lines: usize,
     inputs: usize,
     t: &[u8],
@@ -30,14 +30,14 @@ pub fn values_at(
     masks: &[u64],
     words: &mut [u64],
 )
-    requires { ⌜ (ValidCircuit (now c)) × (PinTable (now c) (now table)) × (lines ≡ N (now c)) × (inputs ≡ I (now c)) × (inputs * u + inputs ≤ length (now t)) × (lines ≤ length (now hits))
+    requires { ⌜ (ValidCircuit (now c)) × (PinTable (now c) (now pins)) × (lines ≡ N (now c)) × (inputs ≡ I (now c)) × (inputs * u + inputs ≤ length (now t)) × (lines ≤ length (now hits))
         × (MaskRoom (now masks)) × (Room lines (now words)) × (Room (F (now c)) (now state)) ⌝ }
     ensures { λ _. ⌜ ((lane : ℕ) (f : Fault) (st : List ℕ) → Stuck lane (now (hits .entry)) (now (masks .entry)) f → Lane lane (now (state .entry)) st → length st ≡ F (now (c .entry))
         → Lane lane (now (words .exit)) (lineValues (now (c .entry)) f (inputsAt (now (c .entry)) (now (t .entry)) u) st)) ⌝ }
 {
     let at = inputs * u;
     let to = at + inputs;
-    unit::simulate_unit(c, table, lines, &t[at..to], state, hits, masks, words);
+    unit::simulate_unit(c, pins, lines, &t[at..to], state, hits, masks, words);
 }
 
 // Every flip-flop at X, in all lanes.
@@ -52,7 +52,7 @@ pub fn power_up(c: &[u8], count: usize, state: &mut [u64])
     }
 }
 
-// What the outputs, whose lines the table gives, show in lane 0, one byte each, from `place` on.
+// What the outputs, whose lines `outs` lists, show in lane 0, one byte each, from `place` on.
 pub fn write_outputs(
     c: &[u8],
     outs: &[usize],
@@ -95,7 +95,7 @@ pub fn write_rows(
     job: Job,
     t: &[u8],
     bits: usize,
-    table: &[u16],
+    pins: &[u16],
     flops: &[usize],
     outs: &[usize],
     hits: &[u8],
@@ -104,7 +104,7 @@ pub fn write_rows(
     state: &mut [u64],
     area: &mut [u8],
 )
-    requires { ⌜ (Runnable (now c) (now t) job (now table) (now flops) (now outs) (now hits) (now masks) (now words) (now state)) × (bits ≤ F (now c)) × (L (now c) (now t) * (O (now c) + bits) ≤ length (now area)) ⌝ }
+    requires { ⌜ (Runnable (now c) (now t) job (now pins) (now flops) (now outs) (now hits) (now masks) (now words) (now state)) × (bits ≤ F (now c)) × (L (now c) (now t) * (O (now c) + bits) ≤ length (now area)) ⌝ }
     ensures { λ _. ⌜ ((f : Fault) (st : List ℕ) → Stuck 0 (now (hits .entry)) (now (masks .entry)) f → Lane 0 (now (state .entry)) st → length st ≡ F (now (c .entry)) → ThreeValued st
         → now (area .exit) ≡ overwritten (gather (λ u. runRow (now (c .entry)) (now (t .entry)) f st bits u) (L (now (c .entry)) (now (t .entry)))) (now (area .entry))) ⌝ }
 {
@@ -114,7 +114,7 @@ pub fn write_rows(
         let place = size * u;
         values_at(
             c,
-            table,
+            pins,
             job.lines,
             job.inputs,
             t,
@@ -164,7 +164,7 @@ pub fn opposing_ever(
     units: usize,
     free: &[u8],
     wanted: u64,
-    table: &[u16],
+    pins: &[u16],
     flops: &[usize],
     outs: &[usize],
     hits: &[u8],
@@ -172,7 +172,7 @@ pub fn opposing_ever(
     words: &mut [u64],
     state: &mut [u64],
 ) -> u64
-    requires { ⌜ (Runnable (now c) (now t) job (now table) (now flops) (now outs) (now hits) (now masks) (now words) (now state)) × (units ≤ L (now c) (now t)) × (units * O (now c) ≤ length (now free)) ⌝ }
+    requires { ⌜ (Runnable (now c) (now t) job (now pins) (now flops) (now outs) (now hits) (now masks) (now words) (now state)) × (units ≤ L (now c) (now t)) × (units * O (now c) ≤ length (now free)) ⌝ }
     ensures { λ r. ⌜ ((lane : ℕ) (f : Fault) (st : List ℕ) → Stuck lane (now (hits .entry)) (now (masks .entry)) f → Lane lane (now (state .entry)) st → length st ≡ F (now (c .entry))
         → bit lane r ≡ bit lane wanted && anyBelow (λ u. someOppose (rowOf (O (now (c .entry))) (now (free .entry)) u) (outputsAt (now (c .entry)) (now (t .entry)) f st u)) units) ⌝ }
 {
@@ -183,7 +183,7 @@ pub fn opposing_ever(
         let to = at + job.outputs;
         values_at(
             c,
-            table,
+            pins,
             job.lines,
             job.inputs,
             t,

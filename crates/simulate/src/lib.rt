@@ -30,14 +30,14 @@ fn respond(c: &[u8], job: Job, t: &[u8], fs: &[u8], result: &mut [u8])
     requires { ⌜ (Ready (now c) (now t) (now fs) (length (now result))) × (JobOf (now c) (now t) job) ⌝ }
     ensures { λ _. ⌜ now (result .exit) ≡ overwritten (simulateBytes (now (c .entry)) (now (t .entry)) (now (fs .entry))) (now (result .entry)) ⌝ }
 {
-    let mut table = [0u16; 16384];
+    let mut pins = [0u16; 16384];
     let mut flops = [0usize; 256];
     let mut outs = [0usize; 256];
     let mut hits = [0u8; 4096];
     let mut masks = [0u64; 2560];
     let mut words = [0u64; 8192];
     let mut state = [0u64; 512];
-    circuit::list_pins(c, job.lines, &mut table);
+    circuit::list_pins(c, job.lines, &mut pins);
     circuit::list_flops(c, job.lines, &mut flops);
     circuit::list_outputs(c, job.lines, &mut outs);
     give_only(fs, &mut hits, &mut masks);
@@ -47,7 +47,7 @@ fn respond(c: &[u8], job: Job, t: &[u8], fs: &[u8], result: &mut [u8])
         job,
         t,
         0,
-        &table,
+        &pins,
         &flops,
         &outs,
         &hits,

@@ -59,26 +59,26 @@ fn gate_lanes(c: &[u8], masks: &[u64], words: &[u64], n: usize, k: u8, row: usiz
         .finish(k)
 }
 
-// The lanes by which the table says that a gate's pin is read; e is its place there.
-fn table_lanes(table: &[u16], words: &[u64], e: usize) -> Lanes
-    requires { ⌜ (e < length (now table)) × (Room (getD (now table) e 0 / 2 + 1) (now words)) ⌝ }
-    ensures { λ r. ⌜ ((t m v : ℕ) (turned : Bool) → getD (now (table .entry)) e 0 ≡ 2 * m + cond turned 1 0 → At t (now (words .entry)) m v → Holds t r (invertIf turned v)) ⌝ }
+// The lanes of a pin, as the table of pins has it at place e.
+fn table_lanes(pins: &[u16], words: &[u64], e: usize) -> Lanes
+    requires { ⌜ (e < length (now pins)) × (Room (getD (now pins) e 0 / 2 + 1) (now words)) ⌝ }
+    ensures { λ r. ⌜ ((t m v : ℕ) (turned : Bool) → getD (now (pins .entry)) e 0 ≡ 2 * m + cond turned 1 0 → At t (now (words .entry)) m v → Holds t r (invertIf turned v)) ⌝ }
 {
-    lanes::read_turned(words, circuit::wide_number(table[e]))
+    lanes::read_turned(words, circuit::wide_number(pins[e]))
 }
 
 // Gate n with no fault at it, of a kind k up to 7. All are one AND of four pins, which needs no test of kind or pin count: OR is, by
 // De Morgan, the inverse of the AND of its inverted pins.
-fn and_gate(c: &[u8], table: &[u16], words: &[u64], n: usize, k: u8) -> Lanes
-    requires { ⌜ (ValidCircuit (now c)) × (n < N (now c)) × (k ≡ kind (now c) n) × (2 ≤ k) × (k ≤ 7) × (PinTable (now c) (now table)) × (Room n (now words)) ⌝ }
+fn and_gate(c: &[u8], pins: &[u16], words: &[u64], n: usize, k: u8) -> Lanes
+    requires { ⌜ (ValidCircuit (now c)) × (n < N (now c)) × (k ≡ kind (now c) n) × (2 ≤ k) × (k ≤ 7) × (PinTable (now c) (now pins)) × (Room n (now words)) ⌝ }
     ensures { λ r. ⌜ ((t : ℕ) (f : Fault) (vs : List ℕ) → ((pin : ℕ) → isStuck f n pin ≡ false) → Lane t (now (words .entry)) vs → length vs ≡ n
         → Holds t r (gate k (pinsSeen (now (c .entry)) f vs n))) ⌝ }
 {
     let e = 4 * n;
-    let first = table_lanes(table, words, e);
-    let second = table_lanes(table, words, e + 1);
-    let third = table_lanes(table, words, e + 2);
-    let fourth = table_lanes(table, words, e + 3);
+    let first = table_lanes(pins, words, e);
+    let second = table_lanes(pins, words, e + 1);
+    let third = table_lanes(pins, words, e + 2);
+    let fourth = table_lanes(pins, words, e + 3);
     let all = first.and(second).and(third.and(fourth));
     match k {
         0..=5 => all.finish(k),
@@ -89,19 +89,19 @@ fn and_gate(c: &[u8], table: &[u16], words: &[u64], n: usize, k: u8) -> Lanes
 // Gate n, of kind k. Most gates have no fault at them and are no XOR.
 fn any_gate(
     c: &[u8],
-    table: &[u16],
+    pins: &[u16],
     masks: &[u64],
     words: &[u64],
     n: usize,
     k: u8,
     row: usize,
 ) -> Lanes
-    requires { ⌜ (ValidCircuit (now c)) × (n < N (now c)) × (k ≡ kind (now c) n) × (2 ≤ k) × (PinTable (now c) (now table)) × (MaskRoom (now masks)) × (row < 256) × (Room n (now words)) ⌝ }
+    requires { ⌜ (ValidCircuit (now c)) × (n < N (now c)) × (k ≡ kind (now c) n) × (2 ≤ k) × (PinTable (now c) (now pins)) × (MaskRoom (now masks)) × (row < 256) × (Room n (now words)) ⌝ }
     ensures { λ r. ⌜ ((t : ℕ) (f : Fault) (vs : List ℕ) → StuckAt t (now (masks .entry)) row f n → Lane t (now (words .entry)) vs → length vs ≡ n → Holds t r (gate k (pinsSeen (now (c .entry)) f vs n))) ⌝ }
 {
     if row == 0 {
         if k <= 7 {
-            return and_gate(c, table, words, n, k);
+            return and_gate(c, pins, words, n, k);
         }
     }
     gate_lanes(c, masks, words, n, k, row)
@@ -110,7 +110,7 @@ fn any_gate(
 // What stands behind line n, of kind k, with i inputs and s flip-flops below it.
 fn behind_lanes(
     c: &[u8],
-    table: &[u16],
+    pins: &[u16],
     inputs: &[u8],
     state: &[u64],
     masks: &[u64],
@@ -121,7 +121,7 @@ fn behind_lanes(
     i: usize,
     s: usize,
 ) -> Lanes
-    requires { ⌜ (ValidCircuit (now c)) × (n < N (now c)) × (k ≡ kind (now c) n) × (PinTable (now c) (now table)) × (MaskRoom (now masks)) × (row < 256) × (Room n (now words))
+    requires { ⌜ (ValidCircuit (now c)) × (n < N (now c)) × (k ≡ kind (now c) n) × (PinTable (now c) (now pins)) × (MaskRoom (now masks)) × (row < 256) × (Room n (now words))
         × (i ≡ countBelow (λ m. isInput (now c) m) n) × (s ≡ countBelow (λ m. isFlipFlop (now c) m) n) × (I (now c) ≤ length (now inputs)) × (Room (F (now c)) (now state)) ⌝ }
     ensures { λ r. ⌜ ((t : ℕ) (f : Fault) (st vs : List ℕ) → t < 64 → StuckAt t (now (masks .entry)) row f n → Lane t (now (state .entry)) st → length st ≡ F (now (c .entry))
         → Lane t (now (words .entry)) vs → length vs ≡ n → Holds t r (behind (now (c .entry)) f (now (inputs .entry)) st vs n)) ⌝ }
@@ -129,14 +129,14 @@ fn behind_lanes(
     match k {
         0 => Lanes::all(inputs[i]),
         1 => lanes::read(state, s),
-        _ => any_gate(c, table, masks, words, n, k, row),
+        _ => any_gate(c, pins, masks, words, n, k, row),
     }
 }
 
 // The values of all lines.
 pub fn simulate_unit(
     c: &[u8],
-    table: &[u16],
+    pins: &[u16],
     lines: usize,
     inputs: &[u8],
     state: &[u64],
@@ -144,7 +144,7 @@ pub fn simulate_unit(
     masks: &[u64],
     words: &mut [u64],
 )
-    requires { ⌜ (ValidCircuit (now c)) × (PinTable (now c) (now table)) × (lines ≡ N (now c)) × (lines ≤ length (now hits)) × (MaskRoom (now masks)) × (Room lines (now words))
+    requires { ⌜ (ValidCircuit (now c)) × (PinTable (now c) (now pins)) × (lines ≡ N (now c)) × (lines ≤ length (now hits)) × (MaskRoom (now masks)) × (Room lines (now words))
         × (I (now c) ≤ length (now inputs)) × (Room (F (now c)) (now state)) ⌝ }
     ensures { λ _. ⌜ ((t : ℕ) (f : Fault) (st : List ℕ) → Stuck t (now (hits .entry)) (now (masks .entry)) f → Lane t (now (state .entry)) st → length st ≡ F (now (c .entry))
         → Lane t (now (words .exit)) (lineValues (now (c .entry)) f (now (inputs .entry)) st)) ⌝ }
@@ -155,7 +155,7 @@ pub fn simulate_unit(
     while n < lines {
         let k = circuit::kind_of(c, n);
         let row = circuit::wide(hits[n]);
-        let x = behind_lanes(c, table, inputs, state, masks, words, n, k, row, i, s);
+        let x = behind_lanes(c, pins, inputs, state, masks, words, n, k, row, i, s);
         lanes::store(words, n, seen_at(masks, row, 0, x));
         i += circuit::one_if(k == 0);
         s += circuit::one_if(k == 1);
@@ -163,7 +163,7 @@ pub fn simulate_unit(
     }
 }
 
-// The next state: what the pins of the flip-flops, whose lines the table gives, see.
+// The next state: what the pins of the flip-flops, whose lines `flops` lists, see.
 pub fn next_state(
     c: &[u8],
     flops: &[usize],

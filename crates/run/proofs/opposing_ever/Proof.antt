@@ -23,13 +23,13 @@ use Rattle.run.proofs.values_at.Reads as values-at-reads
 use Rattle.unit.proofs.next_state.Reads as next-state-reads
 
 abbrev Inv-loop : tie.InvT-loop
-Inv-loop c job t units free wanted table flops outs hits masks words₀ state₀ found₀ u₀ words state found u =
+Inv-loop c job t units free wanted pins flops outs hits masks words₀ state₀ found₀ u₀ words state found u =
     (u ≤ units) × (length words ≡ length words₀) × (length state ≡ length state₀)
     × ((lane : ℕ) (f : Fault) (st : List ℕ) → Stuck lane hits masks f → Lane lane state₀ st → length st ≡ F c
     → Lane lane state (stateAt c t f st u) × (bit lane found ≡ anyBelow (λ u. someOppose (rowOf (O c) free u) (outputsAt c t f st u)) u))
 
 abbrev μ-loop : tie.MeasureT-loop
-μ-loop c job t units free wanted table flops outs hits masks words₀ state₀ found₀ u₀ words state found u = units - u
+μ-loop c job t units free wanted pins flops outs hits masks words₀ state₀ found₀ u₀ words state found u = units - u
 
 small : (c : tie.After-struct-known Inv-loop μ-loop) → c .before .before .before .before .before .before .before .before .before .before .before .before .before .args .job .outputs * c .before .before .loop .u ≤ 262144
 small c =

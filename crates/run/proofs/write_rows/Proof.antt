@@ -24,13 +24,13 @@ use Rattle.run.proofs.write_state.Reads as write-state-reads
 use Rattle.unit.proofs.next_state.Reads as next-state-reads
 
 abbrev Inv-loop : tie.InvT-loop
-Inv-loop c job t bits table flops outs hits masks words₀ state₀ area₀ size u₀ words state area u =
+Inv-loop c job t bits pins flops outs hits masks words₀ state₀ area₀ size u₀ words state area u =
     (u ≤ job .units) × (length words ≡ length words₀) × (length state ≡ length state₀) × (length area ≡ length area₀)
     × ((f : Fault) (st : List ℕ) → Stuck 0 hits masks f → Lane 0 state₀ st → length st ≡ F c → ThreeValued st
     → Lane 0 state (stateAt c t f st u) × (area ≡ overwritten (rows c t f st bits u) area₀))
 
 abbrev μ-loop : tie.MeasureT-loop
-μ-loop c job t bits table flops outs hits masks words₀ state₀ area₀ size u₀ words state area u = job .units - u
+μ-loop c job t bits pins flops outs hits masks words₀ state₀ area₀ size u₀ words state area u = job .units - u
 
 room : (c : tie.Then1 Inv-loop μ-loop) → RowRoom (c .before .before .before .before .before .before .before .before .before .before .before .before .before .before .args .job .outputs + c .before .before .before .before .before .before .before .before .before .before .before .before .before .before .args .bits) (c .before .before .loop .u) (length (c .before .before .before .before .before .before .before .before .before .before .before .before .before .before .args .area .now))
 room c =

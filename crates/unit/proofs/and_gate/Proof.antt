@@ -36,7 +36,7 @@ is-or c h = eq-eqb (kind (c .args .c .now) (c .args .n) / 2) 3 (omega (arith, c 
 
 -- what stands at place e of the table, that of pin i + 1
 numbered : (c : tie.Start) (turned : Bool) → isOr (c .args .c .now) (c .args .n) ≡ turned → (e i : ℕ) → e ≡ 4 * c .args .n + i → i < 4
-    → getD (c .args .table .now) e 0 ≡ 2 * pinLine (c .args .c .now) (c .args .n) (pinRead (pinCount (c .args .c .now) (c .args .n)) (i + 1)) + cond turned 1 0
+    → getD (c .args .pins .now) e 0 ≡ 2 * pinLine (c .args .c .now) (c .args .n) (pinRead (pinCount (c .args .c .now) (c .args .n)) (i + 1)) + cond turned 1 0
 unfolding pinNumber
 numbered c turned or e i at h =
     let row : e / 4 ≡ c .args .n = omega arith in
@@ -44,7 +44,7 @@ numbered c turned or e i at h =
     rw (← or) (rw (row, pin) at (c .pre .5 .same e (omega (arith, c .pre .1)) (rw row (gate c))))
 
 -- it names a lower line
-low : (c : tie.Start) (e i : ℕ) → e ≡ 4 * c .args .n + i → i < 4 → getD (c .args .table .now) e 0 / 2 < c .args .n
+low : (c : tie.Start) (e i : ℕ) → e ≡ 4 * c .args .n + i → i < 4 → getD (c .args .pins .now) e 0 / 2 < c .args .n
 low c e i at h = rw (numbered c _ refl e i at h) (half _ (isOr (c .args .c .now) (c .args .n)) (pin-read-lower _ (c .pre .0) _ (i + 1) (c .pre .1) (gate c) (omega arith)))
   where
     half : (q : ℕ) (turned : Bool) → q < c .args .n → (2 * q + cond turned 1 0) / 2 < c .args .n

@@ -23,12 +23,12 @@ use Rattle.lanes.proofs.store.Reads as store-reads
 use Rattle.unit.proofs.seen_at.Reads as seen-at-reads
 
 abbrev Inv-loop : tie.InvT-loop
-Inv-loop c table lines inputs state hits masks words₀ i₀ s₀ n₀ words i s n =
+Inv-loop c pins lines inputs state hits masks words₀ i₀ s₀ n₀ words i s n =
     (n ≤ lines) × (i ≤ n) × (s ≤ n) × (i ≡ countBelow (λ m. isInput c m) n) × (s ≡ countBelow (λ m. isFlipFlop c m) n) × (length words ≡ length words₀)
     × ((t : ℕ) (f : Fault) (st : List ℕ) → Stuck t hits masks f → Lane t state st → length st ≡ F c → Lane t words (valuesBelow c f inputs st n))
 
 abbrev μ-loop : tie.MeasureT-loop
-μ-loop c table lines inputs state hits masks words₀ i₀ s₀ n₀ words i s n = lines - n
+μ-loop c pins lines inputs state hits masks words₀ i₀ s₀ n₀ words i s n = lines - n
 
 loop-holds : tie.Need-loop-holds Inv-loop μ-loop
 unfolding countBelow
