@@ -26,9 +26,9 @@ use Rattle.unit.proofs.table_lanes.Reads as table-lanes-reads
 gate : (c : tie.Start) → isGate (c .args .c .now) (c .args .n) ≡ true
 gate c = is-gate _ _ _ (c .pre .2) (c .pre .3)
 
-is-and : (c : tie.Start) → c .args .k ≤ 5 → isOr (c .args .c .now) (c .args .n) ≡ false
+is-no-or : (c : tie.Start) → c .args .k ≤ 5 → isOr (c .args .c .now) (c .args .n) ≡ false
 unfolding isOr
-is-and c h = ne-eqb (kind (c .args .c .now) (c .args .n) / 2) 3 (λ q. (let z : ⊥ = omega (arith, c .pre .2, h, q) in z))
+is-no-or c h = ne-eqb (kind (c .args .c .now) (c .args .n) / 2) 3 (λ q. (let z : ⊥ = omega (arith, c .pre .2, h, q) in z))
 
 is-or : (c : tie.Start) → 6 ≤ c .args .k → isOr (c .args .c .now) (c .args .n) ≡ true
 unfolding isOr
@@ -106,7 +106,7 @@ unfolding invertIf pinsSeen
 returns c = λ t f vs free l e.
     let start = c .before .before .before .before .before .before .before .before .before .before .before .before in
     let pin = read start t f vs free l e in
-    let number = numbered start false (is-and start (omega (arith, c .before .if1 .taken))) in
+    let number = numbered start false (is-no-or start (omega (arith, c .before .if1 .taken))) in
     let first = c .before .before .before .before .before .before .before .before .table-lanes .ensures t _ _ false (number (4 * start .args .n) 0 (omega arith) (omega arith)) (pin 1 (omega arith)) in
     let second = c .before .before .before .before .before .before .before .table-lanes2 .ensures t _ _ false (number (4 * start .args .n + 1) 1 (omega arith) (omega arith)) (pin 2 (omega arith)) in
     let third = c .before .before .before .before .before .before .table-lanes3 .ensures t _ _ false (number (4 * start .args .n + 2) 2 (omega arith) (omega arith)) (pin 3 (omega arith)) in
