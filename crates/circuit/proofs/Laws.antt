@@ -64,6 +64,12 @@ outputs-bytes c = select-same _ _ (N c) (λ n. byte-two n)
     byte-two : (n : ℕ) → byteIsOne c 2 n ≡ isOutput c n
     byte-two n = unfold byteIsOne isOutput outputMark in refl
 
+pub flops-listed : (c table : List ℕ) (lines : ℕ) → lines ≡ N c → Listed (select (λ n. byteIsOne c 0 n) lines) table → Listed (flipFlops c) table
+flops-listed c table lines e h = rw (e, flops-bytes c .0) at h
+
+pub outputs-listed : (c table : List ℕ) (lines : ℕ) → lines ≡ N c → Listed (select (λ n. byteIsOne c 2 n) lines) table → Listed (outputLines c) table
+outputs-listed c table lines e h = rw (e, outputs-bytes c .0) at h
+
 -- ---- what a valid circuit gives at one line
 pub is-gate : (c : List ℕ) (n k : ℕ) → k ≡ kind c n → 2 ≤ k → isGate c n ≡ true
 unfolding isGate

@@ -5,7 +5,7 @@ use mathlib.Core.Bool.{Bool, true, cond}
 use mathlib.Core.List.{List}
 use lib.ListN.{getD, length}
 use lib.Dec.{eqb, leb}
-use Rattle.model.specs.Inputs.{N, I, F, O, kind, pinCount, pinLine, isGate, Fault}
+use Rattle.model.specs.Inputs.{N, I, F, O, kind, pinCount, outputMark, spareByte, pinLine, isGate, flipFlops, outputLines, Fault}
 use Rattle.circuit.specs.declared.Sizes.{Sizes}
 use Rattle.circuit.specs.declared.Fault as fault
 
@@ -13,6 +13,14 @@ use Rattle.circuit.specs.declared.Fault as fault
 pub record Listed (lines table : List ℕ) : Type 0 where
   pub room : length lines ≤ length table
   pub same : (i : ℕ) → i < length lines → getD table i 0 ≡ getD lines i 0
+
+-- this byte of line n's record; the first four have names
+pub record FieldOf (c : List ℕ) (n byte r : ℕ) : Type 0 where
+  pub at : r ≡ getD c (12 * n + byte) 0
+  pub kind : byte ≡ 0 → r ≡ kind c n
+  pub pins : byte ≡ 1 → r ≡ pinCount c n
+  pub mark : byte ≡ 2 → r ≡ outputMark c n
+  pub spare : byte ≡ 3 → r ≡ spareByte c n
 
 -- this byte of line n's record is 1: byte 0 of a flip-flop, byte 2 of an output
 unfoldable pub byteIsOne : List ℕ → ℕ → ℕ → Bool
@@ -47,3 +55,9 @@ pub record FaultOf (f : Fault) (r : fault.Fault) : Type 0 where
   pub line : r .line ≡ f .line
   pub pin : r .pin ≡ f .pin
   pub value : r .value ≡ f .value
+
+-- the tables of a circuit
+pub record Tables (c pins flops outs : List ℕ) : Type 0 where
+  pub pinTable : PinTable c pins
+  pub flopTable : Listed (flipFlops c) flops
+  pub outputTable : Listed (outputLines c) outs

@@ -4,10 +4,9 @@ ghost use mathlib.Core.Path.{_≡_};
 ghost use Prim.Native.Nat.{_+_, _*_, _<_, _≤_};
 ghost use lib.ListN.{length, set};
 ghost use Rattle.lists.specs.Scan.{countBelow, select};
-ghost use Rattle.lists.specs.Field.{word16};
-ghost use Rattle.model.specs.Inputs.{N, kind, pinCount, outputMark, spareByte, pinLine, isGate, flipFlops, outputLines, faultAt};
+ghost use Rattle.model.specs.Inputs.{N, pinCount, pinLine, isGate, faultAt};
 ghost use Rattle.model.specs.Accepted.{ValidCircuit};
-ghost use Rattle.circuit.specs.Table.{SizesOf, FaultOf, Listed, byteIsOne, pinRead, pinNumber, PinTable};
+ghost use Rattle.circuit.specs.Table.{FieldOf, SizesOf, FaultOf, Listed, byteIsOne, pinRead, pinNumber, PinTable, Tables};
 
 // N, I, F and O.
 pub struct Sizes {
@@ -24,60 +23,28 @@ pub struct Fault {
     pub value: u8,
 }
 
-// A byte's number in full width.
-pub fn wide(x: u8) -> usize
-    ensures { λ r. ⌜ (r ≡ x) × (r < 256) ⌝ }
+pub const KIND: usize = 0;
+
+pub const PINS: usize = 1;
+
+pub const MARK: usize = 2;
+
+pub const SPARE: usize = 3;
+
+// One of the first four bytes of line n's record: its kind, how many pins it has, 1 if it is an output, and 0.
+pub fn field(c: &[u8], n: usize, byte: usize) -> u8
+    requires { ⌜ (12 * n + 12 ≤ length (now c)) × (byte < 12) ⌝ }
+    ensures { λ r. ⌜ FieldOf (now (c .entry)) n byte r ⌝ }
 {
-    x as usize
+    c[12 * n + byte]
 }
 
-// A number of the table of pins, likewise.
-pub fn wide_number(x: u16) -> usize
-    ensures { λ r. ⌜ r ≡ x ⌝ }
-{
-    x as usize
-}
-
-// A 16-bit number, low byte first.
-pub fn word_at(bytes: &[u8], i: usize) -> usize
-    requires { ⌜ i + 2 ≤ length (now bytes) ⌝ }
-    ensures { λ r. ⌜ (r ≡ word16 (now (bytes .entry)) i) × (r < 65536) ⌝ }
-{
-    let low = wide(bytes[i]);
-    let high = wide(bytes[i + 1]);
-    low + 256 * high
-}
-
-// The kind of line n, byte 0 of its record.
-pub fn kind_of(c: &[u8], n: usize) -> u8
-    requires { ⌜ 12 * n + 12 ≤ length (now c) ⌝ }
-    ensures { λ r. ⌜ r ≡ kind (now (c .entry)) n ⌝ }
-{
-    c[12 * n]
-}
-
-// How many pins it has, byte 1.
+// How many pins line n has, in full width.
 pub fn pins_of(c: &[u8], n: usize) -> usize
     requires { ⌜ 12 * n + 12 ≤ length (now c) ⌝ }
     ensures { λ r. ⌜ (r ≡ pinCount (now (c .entry)) n) × (r < 256) ⌝ }
 {
-    wide(c[12 * n + 1])
-}
-
-// 1 if it is an output, byte 2.
-pub fn mark_of(c: &[u8], n: usize) -> u8
-    requires { ⌜ 12 * n + 12 ≤ length (now c) ⌝ }
-    ensures { λ r. ⌜ r ≡ outputMark (now (c .entry)) n ⌝ }
-{
-    c[12 * n + 2]
-}
-
-// Byte 3, which row 4 asks to be 0.
-pub fn spare_of(c: &[u8], n: usize) -> u8
-    requires { ⌜ 12 * n + 12 ≤ length (now c) ⌝ }
-    ensures { λ r. ⌜ r ≡ spareByte (now (c .entry)) n ⌝ }
-{
-    c[12 * n + 3]
+    basics::wide(field(c, n, PINS))
 }
 
 // The line that pin p, 1 to 4, names.
@@ -85,7 +52,7 @@ pub fn pin_of(c: &[u8], n: usize, p: usize) -> usize
     requires { ⌜ (12 * n + 12 ≤ length (now c)) × (1 ≤ p) × (p ≤ 4) ⌝ }
     ensures { λ r. ⌜ (r ≡ pinLine (now (c .entry)) n p) × (r < 65536) ⌝ }
 {
-    word_at(c, 12 * n + 2 + 2 * p)
+    basics::word_at(c, 12 * n + 2 + 2 * p)
 }
 
 // Fault j of a list.
@@ -94,16 +61,10 @@ pub fn fault_of(fs: &[u8], j: usize) -> Fault
     ensures { λ r. ⌜ FaultOf (faultAt (now (fs .entry)) j) r ⌝ }
 {
     Fault {
-        line: word_at(fs, 4 * j),
-        pin: wide(fs[4 * j + 2]),
+        line: basics::word_at(fs, 4 * j),
+        pin: basics::wide(fs[4 * j + 2]),
         value: fs[4 * j + 3],
     }
-}
-
-pub fn one_if(b: bool) -> usize
-    ensures { λ r. ⌜ (r ≡ cond b 1 0) × (r ≤ 1) ⌝ }
-{
-    if b { 1 } else { 0 }
 }
 
 // The sizes of a circuit with so many lines.
@@ -116,10 +77,10 @@ pub fn sizes_of(c: &[u8], lines: usize) -> Sizes
     let mut outputs: usize = 0;
     let mut n: usize = 0;
     while n < lines {
-        let k = kind_of(c, n);
-        inputs += one_if(k == 0);
-        flops += one_if(k == 1);
-        outputs += one_if(mark_of(c, n) == 1);
+        let k = field(c, n, KIND);
+        inputs += basics::one_if(k == 0);
+        flops += basics::one_if(k == 1);
+        outputs += basics::one_if(field(c, n, MARK) == 1);
         n += 1;
     }
     Sizes {
@@ -155,22 +116,6 @@ fn list_lines(c: &[u8], lines: usize, byte: usize, table: &mut [usize])
     }
 }
 
-// The lines of the flip-flops.
-pub fn list_flops(c: &[u8], lines: usize, table: &mut [usize])
-    requires { ⌜ (ValidCircuit (now c)) × (lines ≡ N (now c)) × (256 ≤ length (now table)) ⌝ }
-    ensures { λ _. ⌜ Listed (flipFlops (now (c .entry))) (now (table .exit)) ⌝ }
-{
-    list_lines(c, lines, 0, table);
-}
-
-// The output lines.
-pub fn list_outputs(c: &[u8], lines: usize, table: &mut [usize])
-    requires { ⌜ (ValidCircuit (now c)) × (lines ≡ N (now c)) × (256 ≤ length (now table)) ⌝ }
-    ensures { λ _. ⌜ Listed (outputLines (now (c .entry))) (now (table .exit)) ⌝ }
-{
-    list_lines(c, lines, 2, table);
-}
-
 // Pin p, where a gate has so many, and else pin 1.
 fn pin_read(count: usize, p: usize) -> usize
     ensures { λ r. ⌜ r ≡ pinRead count p ⌝ }
@@ -186,17 +131,17 @@ fn pin_number(c: &[u8], n: usize, p: usize) -> u16
     requires { ⌜ (ValidCircuit (now c)) × (n < N (now c)) × (1 ≤ p) × (p ≤ 4) ⌝ }
     ensures { λ r. ⌜ (isGate (now (c .entry)) n ≡ true → r ≡ pinNumber (now (c .entry)) n p) ⌝ }
 {
-    let k = kind_of(c, n);
+    let k = field(c, n, KIND);
     if k < 2 {
         return 0;
     }
     let pin = pin_read(pins_of(c, n), p);
-    let number = 2 * pin_of(c, n, pin) + one_if(k / 2 == 3);
+    let number = 2 * pin_of(c, n, pin) + basics::one_if(k / 2 == 3);
     number as u16
 }
 
 // The pins of all gates, as they are read.
-pub fn list_pins(c: &[u8], lines: usize, table: &mut [u16])
+fn list_pins(c: &[u8], lines: usize, table: &mut [u16])
     requires { ⌜ (ValidCircuit (now c)) × (lines ≡ N (now c)) × (4 * lines ≤ length (now table)) ⌝ }
     ensures { λ _. ⌜ PinTable (now (c .entry)) (now (table .exit)) ⌝ }
 {
@@ -205,4 +150,20 @@ pub fn list_pins(c: &[u8], lines: usize, table: &mut [u16])
         table[e] = pin_number(c, e / 4, e % 4 + 1);
         e += 1;
     }
+}
+
+// The tables of a circuit: the pins of all gates, the lines of the flip-flops, and those of the outputs.
+pub fn list_tables(
+    c: &[u8],
+    lines: usize,
+    pins: &mut [u16],
+    flops: &mut [usize],
+    outs: &mut [usize],
+)
+    requires { ⌜ (ValidCircuit (now c)) × (lines ≡ N (now c)) × (4 * lines ≤ length (now pins)) × (256 ≤ length (now flops)) × (256 ≤ length (now outs)) ⌝ }
+    ensures { λ _. ⌜ Tables (now (c .entry)) (now (pins .exit)) (now (flops .exit)) (now (outs .exit)) ⌝ }
+{
+    list_pins(c, lines, pins);
+    list_lines(c, lines, KIND, flops);
+    list_lines(c, lines, MARK, outs);
 }

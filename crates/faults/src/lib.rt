@@ -41,7 +41,7 @@ pub fn give(hits: &mut [u8], masks: &mut [u64], t: usize, line: usize, pin: usiz
     if hits[line] == 0 {
         hits[line] = (t + 1) as u8;
     }
-    let at = 5 * circuit::wide(hits[line]) + pin;
+    let at = 5 * basics::wide(hits[line]) + pin;
     let x = lanes::read(masks, at);
     lanes::store(masks, at, x.with(t, stuck));
 }
@@ -51,7 +51,7 @@ fn line_of(fs: &[u8], j: usize) -> usize
     requires { ⌜ 4 * j + 4 ≤ length (now fs) ⌝ }
     ensures { λ r. ⌜ (r ≡ faultAt (now (fs .entry)) j .line) × (r < 65536) ⌝ }
 {
-    circuit::word_at(fs, 4 * j)
+    basics::word_at(fs, 4 * j)
 }
 
 // A group of faults, one to a lane from lane 0 on.
@@ -63,7 +63,7 @@ pub fn give_group(fs: &[u8], from: usize, count: usize, hits: &mut [u8], masks: 
     while t < count {
         let j = from + t;
         let line = line_of(fs, j);
-        let pin = circuit::wide(fs[4 * j + 2]);
+        let pin = basics::wide(fs[4 * j + 2]);
         give(hits, masks, t, line, pin, fs[4 * j + 3]);
         t += 1;
     }

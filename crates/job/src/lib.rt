@@ -32,8 +32,8 @@ fn check_units(size: usize, inputs: usize) -> Check
     requires { ⌜ 0 < inputs ⌝ }
     ensures { λ r. ⌜ ((c t : List ℕ) → I c ≡ inputs → length t ≡ size → refusalOf r ≡ row7 c t) ⌝ }
 {
-    let ragged = rules::either(size == 0, size % inputs != 0);
-    Check::refuse(rules::either(ragged, 1024 < size / inputs), 7, 0)
+    let ragged = basics::either(size == 0, size % inputs != 0);
+    Check::refuse(basics::either(ragged, 1024 < size / inputs), 7, 0)
 }
 
 // Row 8.
@@ -66,8 +66,8 @@ fn check_test(t: &[u8], inputs: usize) -> Check
 fn check_count(size: usize, least: usize, most: usize) -> Check
     ensures { λ r. ⌜ ((fs : List ℕ) → length fs ≡ size → refusalOf r ≡ row9 least most fs) ⌝ }
 {
-    let few = rules::either(size % 4 != 0, size / 4 < least);
-    Check::refuse(rules::either(few, most < size / 4), 9, 0)
+    let few = basics::either(size % 4 != 0, size / 4 < least);
+    Check::refuse(basics::either(few, most < size / 4), 9, 0)
 }
 
 // Whether a fault's line, pin and value are as row 10 asks.
@@ -77,7 +77,7 @@ fn fault_fits(c: &[u8], lines: usize, fs: &[u8], j: usize) -> bool
 {
     let f = circuit::fault_of(fs, j);
     if f.line < lines {
-        return rules::both(f.pin <= circuit::pins_of(c, f.line), f.value <= 1);
+        return basics::both(f.pin <= circuit::pins_of(c, f.line), f.value <= 1);
     }
     false
 }
@@ -114,7 +114,7 @@ fn check_faults(c: &[u8], lines: usize, fs: &[u8], least: usize, most: usize) ->
 fn check_plan(size: usize) -> Check
     ensures { λ r. ⌜ ((p : List ℕ) → length p ≡ size → refusalOf r ≡ row11 p) ⌝ }
 {
-    Check::refuse(rules::either(size % 4 != 0, 4096 < size / 4), 11, 0)
+    Check::refuse(basics::either(size % 4 != 0, 4096 < size / 4), 11, 0)
 }
 
 // Row 12.
@@ -128,7 +128,7 @@ fn check_k(k: usize) -> Check
 fn check_verdicts(size: usize) -> Check
     ensures { λ r. ⌜ ((vs : List ℕ) → length vs ≡ size → refusalOf r ≡ row15 vs) ⌝ }
 {
-    Check::refuse(rules::either(size % 16 != 0, 524288 < size), 15, 0)
+    Check::refuse(basics::either(size % 16 != 0, 524288 < size), 15, 0)
 }
 
 // Row 13.

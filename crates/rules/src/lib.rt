@@ -41,26 +41,6 @@ impl Check {
     }
 }
 
-// `||`, with no branch in the caller.
-pub fn either(a: bool, b: bool) -> bool
-    ensures { λ r. ⌜ r ≡ (a || b) ⌝ }
-{
-    if a {
-        return true;
-    }
-    b
-}
-
-// `&&`, likewise.
-pub fn both(a: bool, b: bool) -> bool
-    ensures { λ r. ⌜ r ≡ (a && b) ⌝ }
-{
-    if a {
-        return b;
-    }
-    false
-}
-
 // Row 3.
 fn pins_fit(k: u8, pins: usize) -> bool
     ensures { λ r. ⌜ r ≡ pinsFit k pins ⌝ }
@@ -68,7 +48,7 @@ fn pins_fit(k: u8, pins: usize) -> bool
     match k {
         0 => pins == 0,
         1..=3 => pins == 1,
-        _ => both(2 <= pins, pins <= 4),
+        _ => basics::both(2 <= pins, pins <= 4),
     }
 }
 
@@ -79,7 +59,7 @@ fn unused_named(c: &[u8], n: usize, pins: usize) -> bool
 {
     let mut i: usize = 0;
     while i < 4 {
-        if both(pins <= i, 0 < circuit::pin_of(c, n, i + 1)) {
+        if basics::both(pins <= i, 0 < circuit::pin_of(c, n, i + 1)) {
             return true;
         }
         i += 1;
@@ -114,8 +94,8 @@ fn check_pins(c: &[u8], lines: usize, n: usize, k: u8, pins: usize) -> Check
     requires { ⌜ (12 * n + 12 ≤ length (now c)) × (lines ≡ N (now c)) × (k ≡ kind (now c) n) × (pins ≡ pinCount (now c) n) × (pins ≤ 4) ⌝ }
     ensures { λ r. ⌜ refusalOf r ≡ (refuse (strayBytes (now (c .entry)) n) 4 n else refuse (misnames (now (c .entry)) n) 5 n) ⌝ }
 {
-    let spare = either(
-        either(1 < circuit::mark_of(c, n), 0 < circuit::spare_of(c, n)),
+    let spare = basics::either(
+        basics::either(1 < circuit::mark_of(c, n), 0 < circuit::spare_of(c, n)),
         unused_named(c, n, pins),
     );
     let wrong = misnames_from(c, n, pins, limit_of(k, lines, n));
@@ -158,9 +138,9 @@ fn check_records(c: &[u8], lines: usize) -> Check
 fn check_sizes(s: Sizes) -> Check
     ensures { λ r. ⌜ ((c : List ℕ) → SizesOf c s → refusalOf r ≡ row6 c) ⌝ }
 {
-    let none = either(s.inputs == 0, s.outputs == 0);
-    let many = either(
-        either(either(none, 256 < s.inputs), 256 < s.flops),
+    let none = basics::either(s.inputs == 0, s.outputs == 0);
+    let many = basics::either(
+        basics::either(basics::either(none, 256 < s.inputs), 256 < s.flops),
         256 < s.outputs,
     );
     Check::refuse(many, 6, 0)
@@ -171,7 +151,7 @@ fn check_length(size: usize) -> Check
     ensures { λ r. ⌜ ((c : List ℕ) → length c ≡ size → refusalOf r ≡ row1 c) ⌝ }
 {
     Check::refuse(
-        either(either(size == 0, size % 12 != 0), 49152 < size),
+        basics::either(basics::either(size == 0, size % 12 != 0), 49152 < size),
         1,
         0,
     )

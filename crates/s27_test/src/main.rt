@@ -70,7 +70,7 @@ fn print_fault(circuit: &[u8], test: &[u8], faults: &[u8], j: usize, free: &[u8]
     print(b" ");
     print_number(fault.pin);
     print(b" ");
-    print_number(circuit::wide(fault.value));
+    print_number(basics::wide(fault.value));
     let size = respond(circuit, test, &faults[4 * j..4 * j + 4], &mut result);
     if 256 < size {
         return;

@@ -74,10 +74,10 @@ fn report(outcome: Outcome, work: &[u8], result: &[u8]) {
         }
         Outcome::Refused { rule, at } => {
             print(b"refused ");
-            print_number(circuit::wide(rule));
+            print_number(basics::wide(rule));
             print(b" ");
             print_number(at);
-            print_kept(rules::both(kept(work), kept(result)));
+            print_kept(basics::both(kept(work), kept(result)));
         }
     }
 }
@@ -88,11 +88,11 @@ fn run_job(jobs: &[u8], at: usize, work: &mut [u8], result: &mut [u8]) -> usize
     ensures { λ r. ⌜ (at < r) × (r ≤ length (now (jobs .entry))) ⌝ }
 {
     let from = at + 10;
-    let test = from + circuit::word_at(jobs, at);
-    let faults = test + circuit::word_at(jobs, at + 2);
-    let end = faults + circuit::word_at(jobs, at + 4);
-    let w = circuit::word_at(jobs, at + 6);
-    let r = circuit::word_at(jobs, at + 8);
+    let test = from + basics::word_at(jobs, at);
+    let faults = test + basics::word_at(jobs, at + 2);
+    let end = faults + basics::word_at(jobs, at + 4);
+    let w = basics::word_at(jobs, at + 6);
+    let r = basics::word_at(jobs, at + 8);
     if jobs.len() < end {
         print(b"the last job is cut off\n");
         return jobs.len();

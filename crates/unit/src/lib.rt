@@ -64,7 +64,7 @@ fn table_lanes(pins: &[u16], words: &[u64], e: usize) -> Lanes
     requires { ⌜ (e < length (now pins)) × (Room (getD (now pins) e 0 / 2 + 1) (now words)) ⌝ }
     ensures { λ r. ⌜ ((t m v : ℕ) (turned : Bool) → getD (now (pins .entry)) e 0 ≡ 2 * m + cond turned 1 0 → At t (now (words .entry)) m v → Holds t r (invertIf turned v)) ⌝ }
 {
-    lanes::read_turned(words, circuit::wide_number(pins[e]))
+    lanes::read_turned(words, basics::wide16(pins[e]))
 }
 
 // Gate n with no fault at it, of a kind k up to 7. All are one AND of four pins, which needs no test of kind or pin count: OR is, by
@@ -154,11 +154,11 @@ pub fn simulate_unit(
     let mut n: usize = 0;
     while n < lines {
         let k = circuit::kind_of(c, n);
-        let row = circuit::wide(hits[n]);
+        let row = basics::wide(hits[n]);
         let x = behind_lanes(c, pins, inputs, state, masks, words, n, k, row, i, s);
         lanes::store(words, n, seen_at(masks, row, 0, x));
-        i += circuit::one_if(k == 0);
-        s += circuit::one_if(k == 1);
+        i += basics::one_if(k == 0);
+        s += basics::one_if(k == 1);
         n += 1;
     }
 }
@@ -181,7 +181,7 @@ pub fn next_state(
     let mut s: usize = 0;
     while s < count {
         let n = flops[s];
-        let row = circuit::wide(hits[n]);
+        let row = basics::wide(hits[n]);
         lanes::store(state, s, pin_lanes(c, masks, words, n, 1, row));
         s += 1;
     }

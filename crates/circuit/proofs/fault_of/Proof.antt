@@ -5,8 +5,8 @@ use Rattle.circuit.proofs.fault_of.Statement.{statement}
 use Rattle.circuit.proofs.fault_of.Tie as tie
 use Rattle.circuit.proofs.fault_of.Reads as reads
 use Rattle.circuit.proofs.fault_of.Lts as lts
-use Rattle.circuit.proofs.wide.Reads as wide-reads
-use Rattle.circuit.proofs.word_at.Reads as word-at-reads
+use Rattle.basics.proofs.wide.Reads as wide-reads
+use Rattle.basics.proofs.word_at.Reads as word-at-reads
 
 mul-word-at : tie.Need-mul-word-at
 mul-word-at c = search needs

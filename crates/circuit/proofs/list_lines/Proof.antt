@@ -1,3 +1,4 @@
+-- The table begins with the lines below n that have 1 in the byte, and s counts them.
 use mathlib.Core.Path.{_≡_, refl, sym, ap, _∙_}
 use Prim.Native.Nat.{ℕ, _+_, _-_, _≤_}
 use mathlib.Core.Bool.{Bool, cond}

@@ -1,3 +1,4 @@
+-- The numbers of the places below e are those that the table is to have.
 use mathlib.Core.Path.{_≡_, refl}
 use mathlib.Core.Bool.{true}
 use Prim.Native.Nat.{ℕ, _+_, _*_, _-_, _/_, _%_, _<_, _≤_}
@@ -18,38 +19,56 @@ Inv-loop c lines table₀ e₀ table e = (e ≤ 4 * lines) × (length table ≡ 
 abbrev μ-loop : tie.MeasureT-loop
 μ-loop c lines table₀ e₀ table e = 4 * lines - e
 
+abbrev Loop : Type 0
+Loop = tie.At-loop Inv-loop μ-loop
+
+abbrev start : Loop → tie.Start Inv-loop μ-loop
+start l = l .before .before .before
+
+-- a number has its place in the table
+inside : (c : tie.In-loop Inv-loop μ-loop) → c .before .loop .e < length (c .before .loop .table)
+inside c = omega (arith, start (c .before) .pre .2, c .loop-test .taken, c .before .loop .inv .1)
+
+small : (l : Loop) → 4 * start l .args .lines ≤ 16384
+small l = omega (arith, start l .pre .0 .lines, start l .pre .1)
+
 loop-holds : tie.Need-loop-holds Inv-loop μ-loop
 loop-holds c = (omega arith, refl, λ i h g. absurd (let z : ⊥ = omega arith in z))
 
 mul-loop : tie.Need-mul-loop Inv-loop μ-loop
-mul-loop c = omega (arith, c .before .before .before .pre .0 .lines, c .before .before .before .pre .1)
+mul-loop c = omega (arith, small c)
 
 add-pin-number : tie.Need-add-pin-number Inv-loop μ-loop
 add-pin-number c = omega arith
 
 pin-number-requires : tie.Need-pin-number-requires Inv-loop μ-loop
-pin-number-requires c κs = (c .before .before .before .before .pre .0, omega (arith, c .before .before .before .before .pre .1, c .loop-test .taken), omega arith, omega arith)
+pin-number-requires c κs = let pre = start (c .before) .pre in (pre .0, omega (arith, pre .1, c .loop-test .taken), omega arith, omega arith)
 
 mul-table : tie.Need-mul-table Inv-loop μ-loop
-mul-table c = omega (arith, c .before .before .before .before .before .pre .0 .lines, c .before .before .before .before .before .pre .1, c .before .loop-test .taken)
+mul-table c = omega (arith, small (c .before .before), c .before .loop-test .taken)
 
 slice-write-table : tie.Need-slice-write-table Inv-loop μ-loop
-slice-write-table c = omega (arith, c .before .before .before .before .before .pre .2, c .before .loop-test .taken, c .before .before .loop .inv .1)
+slice-write-table c = inside (c .before)
 
 add-e : tie.Need-add-e Inv-loop μ-loop
-add-e c = omega (arith, c .before .before .before .before .before .pre .0 .lines, c .before .before .before .before .before .pre .1, c .before .loop-test .taken)
+add-e c = omega (arith, small (c .before .before), c .before .loop-test .taken)
 
 loop-less : tie.Need-loop-less Inv-loop μ-loop
 loop-less c = omega (arith, c .before .loop-test .taken)
 
 loop-again : tie.Need-loop-again Inv-loop μ-loop
-loop-again c = (omega (arith, c .before .loop-test .taken), simp length-set (c .before .before .loop .inv .1), numbered-more (c .before .before .before .before .before .args .c .now) (c .before .before .loop .table) (c .before .before .loop .e) (c .pin-number .result) (omega (arith, c .before .before .before .before .before .pre .2, c .before .loop-test .taken, c .before .before .loop .inv .1)) (c .before .before .loop .inv .2) (c .pin-number .ensures))
+loop-again c =
+    let loop = c .before .before .loop in
+    (omega (arith, c .before .loop-test .taken), simp length-set (loop .inv .1), numbered-more _ (loop .table) (loop .e) (c .pin-number .result) (inside (c .before)) (loop .inv .2) (c .pin-number .ensures))
 
 same-length : tie.Need-same-length Inv-loop μ-loop
 same-length c = c .before .loop .inv .1
 
 returns : tie.Need-returns Inv-loop μ-loop
-returns c = record { room = omega (arith, c .before .before .before .before .pre .1, c .before .before .before .before .pre .2, c .before .loop .inv .1); same = λ e h g. c .before .loop .inv .2 e (omega (arith, c .before .before .before .before .pre .1, c .loop-test .left)) g }
+returns c =
+    let pre = start (c .before) .pre in
+    let inv = c .before .loop .inv in
+    record { room = omega (arith, pre .1, pre .2, inv .1); same = λ e h g. inv .2 e (omega (arith, pre .1, c .loop-test .left)) g }
 
 pub list-pins-spec : {M : Type 1} → statement M
 list-pins-spec =

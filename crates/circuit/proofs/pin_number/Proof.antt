@@ -1,4 +1,4 @@
-use mathlib.Core.Path.{_≡_}
+use mathlib.Core.Path.{_≡_, refl}
 use Prim.Native.Nat.{ℕ, _<_, _≤_}
 use native.Mathlib.Omega.{arith}
 use Rattle.model.specs.Inputs.{kind, pinCount, pinLine}
@@ -10,8 +10,7 @@ use Rattle.circuit.proofs.pin_number.Statement.{statement}
 use Rattle.circuit.proofs.pin_number.Tie as tie
 use Rattle.circuit.proofs.pin_number.Reads as reads
 use Rattle.circuit.proofs.pin_number.Lts as lts
-use Rattle.circuit.proofs.kind_of.Reads as kind-of-reads
-use Rattle.circuit.proofs.one_if.Reads as one-if-reads
+use Rattle.basics.proofs.one_if.Reads as one-if-reads
 use Rattle.circuit.proofs.pin_of.Reads as pin-of-reads
 use Rattle.circuit.proofs.pin_read.Reads as pin-read-reads
 use Rattle.circuit.proofs.pins_of.Reads as pins-of-reads
@@ -29,11 +28,17 @@ read-of c k count q e h counted r =
     let low = pin-read-lower _ (c .pre .0) _ (c .args .p) (c .pre .1) gate (c .pre .2) in
     rw (r, counted) record { few = has .0; most = omega (arith, has .1, c .pre .0 .few _ (c .pre .1)); low = low }
 
-kind-of-requires : tie.Need-kind-of-requires
-kind-of-requires c κs = search needs
+-- the pin that was read
+pin-read-of : (c : tie.After-pin-read) → ReadOf (c .before .before .before .before .before) (c .pin-read .result)
+pin-read-of c =
+    read-of (c .before .before .before .before .before) _ _ _ (c .before .before .before .field .ensures .kind refl) (omega (arith, c .before .before .if1 .left))
+    (c .before .pins-of .ensures .0) (c .pin-read .ensures)
+
+field-requires : tie.Need-field-requires
+field-requires c κs = search needs
 
 returns : tie.Need-returns
-returns c = λ g. absurd (let z : ⊥ = omega (arith, gate-kind _ _ g, c .before .kind-of .ensures) in z)
+returns c = λ g. absurd (let z : ⊥ = omega (arith, gate-kind _ _ g, c .before .field .ensures .kind refl) in z)
 
 pins-of-requires : tie.Need-pins-of-requires
 pins-of-requires c κs = search needs
@@ -42,7 +47,7 @@ pin-read-requires : tie.Need-pin-read-requires
 pin-read-requires c κs = search needs
 
 pin-of-requires : tie.Need-pin-of-requires
-pin-of-requires c κs = let r = read-of (c .before .before .before .before .before) _ _ _ (c .before .before .before .kind-of .ensures) (omega (arith, c .before .before .if1 .left)) (c .before .pins-of .ensures .0) (c .pin-read .ensures) in (omega (arith, c .before .before .before .before .before .pre .0 .size, c .before .before .before .before .before .pre .1), r .few, r .most)
+pin-of-requires c κs = let r = pin-read-of c in let pre = c .before .before .before .before .before .pre in (omega (arith, pre .0 .size, pre .1), r .few, r .most)
 
 mul-number : tie.Need-mul-number
 mul-number c = search needs
@@ -54,17 +59,20 @@ add-number : tie.Need-add-number
 add-number c = search needs
 
 cast-result : tie.Need-cast-result
-cast-result c = omega (arith, c .before .pin-of .ensures .0, c .one-if .ensures .1, c .before .before .before .before .before .before .before .pre .0 .lines, c .before .before .before .before .before .before .before .pre .1, read-of (c .before .before .before .before .before .before .before) _ _ _ (c .before .before .before .before .before .kind-of .ensures) (omega (arith, c .before .before .before .before .if1 .left)) (c .before .before .before .pins-of .ensures .0) (c .before .before .pin-read .ensures) .low)
+cast-result c =
+    let read = c .before .before in
+    let pre = read .before .before .before .before .before .pre in
+    omega (arith, c .before .pin-of .ensures .0, c .one-if .ensures .1, pre .0 .lines, pre .1, pin-read-of read .low)
 
 returns-2 : tie.Need-returns-2
 unfolding pinNumber isOr
-returns-2 c = λ g. rw (c .before .pin-of .ensures .0, c .one-if .ensures .0, c .before .before .pin-read .ensures, c .before .before .before .pins-of .ensures .0, c .before .before .before .before .before .kind-of .ensures)
+returns-2 c = λ g. rw (c .before .pin-of .ensures .0, c .one-if .ensures .0, c .before .before .pin-read .ensures, c .before .before .before .pins-of .ensures .0, c .before .before .before .before .before .field .ensures .kind refl)
 
 pub pin-number-spec : {M : Type 1} → statement M
 pin-number-spec =
     tie.close
     (tie.spec
-    kind-of-requires
+    field-requires
     returns
     pins-of-requires
     pin-read-requires

@@ -1,26 +1,19 @@
-use Rattle.model.specs.Inputs.{pinCount}
+use mathlib.Core.Path.{refl, _∙_}
 use borrow.Author.Needs.{needs}
 use Rattle.circuit.proofs.pins_of.Statement.{statement}
 use Rattle.circuit.proofs.pins_of.Tie as tie
 use Rattle.circuit.proofs.pins_of.Reads as reads
 use Rattle.circuit.proofs.pins_of.Lts as lts
-use Rattle.circuit.proofs.wide.Reads as wide-reads
+use Rattle.basics.proofs.wide.Reads as wide-reads
 
-mul-wide : tie.Need-mul-wide
-mul-wide c = search needs
-
-add-wide : tie.Need-add-wide
-add-wide c = search needs
-
-shared-slice-read-wide : tie.Need-shared-slice-read-wide
-shared-slice-read-wide c = search needs
+field-requires : tie.Need-field-requires
+field-requires c κs = search needs
 
 wide-requires : tie.Need-wide-requires
 wide-requires c κs = search needs
 
 returns : tie.Need-returns
-unfolding pinCount
-returns c = (c .wide .ensures .0, c .wide .ensures .1)
+returns c = (c .wide .ensures .0 ∙ c .before .field .ensures .pins refl, c .wide .ensures .1)
 
 pub pins-of-spec : {M : Type 1} → statement M
-pins-of-spec = tie.close (tie.spec mul-wide add-wide shared-slice-read-wide wide-requires returns)
+pins-of-spec = tie.close (tie.spec field-requires wide-requires returns)

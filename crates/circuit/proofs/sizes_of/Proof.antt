@@ -1,3 +1,4 @@
+-- The counts so far are those of the lines below n.
 use mathlib.Core.Path.{_≡_, refl, _∙_}
 use Prim.Native.Nat.{_≤_, _-_}
 use native.Mathlib.Omega.{arith}
@@ -8,9 +9,7 @@ use Rattle.circuit.proofs.sizes_of.Statement.{statement}
 use Rattle.circuit.proofs.sizes_of.Tie as tie
 use Rattle.circuit.proofs.sizes_of.Reads as reads
 use Rattle.circuit.proofs.sizes_of.Lts as lts
-use Rattle.circuit.proofs.kind_of.Reads as kind-of-reads
-use Rattle.circuit.proofs.mark_of.Reads as mark-of-reads
-use Rattle.circuit.proofs.one_if.Reads as one-if-reads
+use Rattle.basics.proofs.one_if.Reads as one-if-reads
 
 abbrev Inv-loop : tie.InvT-loop
 Inv-loop c lines inputs₀ flops₀ outputs₀ n₀ inputs flops outputs n =
@@ -24,8 +23,8 @@ loop-holds : tie.Need-loop-holds Inv-loop μ-loop
 unfolding countBelow
 loop-holds c = (omega arith, omega arith, omega arith, omega arith, refl, refl, refl)
 
-kind-of-requires : tie.Need-kind-of-requires Inv-loop μ-loop
-kind-of-requires c κs = omega arith
+field-requires : tie.Need-field-requires Inv-loop μ-loop
+field-requires c κs = (omega arith, omega arith)
 
 one-if-requires : tie.Need-one-if-requires Inv-loop μ-loop
 one-if-requires c κs = tt
@@ -39,8 +38,8 @@ one-if-requires-2 c κs = tt
 add-flops : tie.Need-add-flops Inv-loop μ-loop
 add-flops c = omega arith
 
-mark-of-requires : tie.Need-mark-of-requires Inv-loop μ-loop
-mark-of-requires c κs = omega arith
+field-requires-2 : tie.Need-field-requires-2 Inv-loop μ-loop
+field-requires-2 c κs = (omega arith, omega arith)
 
 one-if-requires-3 : tie.Need-one-if-requires-3 Inv-loop μ-loop
 one-if-requires-3 c κs = tt
@@ -59,14 +58,14 @@ unfolding isInput isFlipFlop isOutput
 loop-again c =
     let turn = c .before .before .before .before .before in
     let inv = turn .before .loop .inv in
-    let kind = c .before .before .before .before .kind-of .ensures in (
+    let kind = c .before .before .before .before .field .ensures .kind refl in (
       omega arith,
       omega arith,
       omega arith,
       omega arith,
       rw (countBelow-turn, c .before .before .before .one-if .ensures .0, kind, inv .4),
       rw (countBelow-turn, c .before .before .one-if2 .ensures .0, kind, inv .5),
-      rw (countBelow-turn, c .one-if3 .ensures .0, c .before .mark-of .ensures, inv .6),
+      rw (countBelow-turn, c .one-if3 .ensures .0, c .before .field2 .ensures .mark refl, inv .6),
     )
 
 returns : tie.Need-returns Inv-loop μ-loop
@@ -84,12 +83,12 @@ sizes-of-spec =
     Inv-loop
     μ-loop
     loop-holds
-    kind-of-requires
+    field-requires
     one-if-requires
     add-inputs
     one-if-requires-2
     add-flops
-    mark-of-requires
+    field-requires-2
     one-if-requires-3
     add-outputs
     add-n

@@ -7,7 +7,7 @@ use Rattle.faults.proofs.give.Statement.{statement}
 use Rattle.faults.proofs.give.Tie as tie
 use Rattle.faults.proofs.give.Reads as reads
 use Rattle.faults.proofs.give.Lts as lts
-use Rattle.circuit.proofs.wide.Reads as wide-reads
+use Rattle.basics.proofs.wide.Reads as wide-reads
 use Rattle.lanes.proofs.Lanes.with.Reads as with-reads
 use Rattle.lanes.proofs.read.Reads as read-reads
 use Rattle.lanes.proofs.store.Reads as store-reads

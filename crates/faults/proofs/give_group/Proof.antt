@@ -9,7 +9,7 @@ use Rattle.faults.proofs.give_group.Statement.{statement}
 use Rattle.faults.proofs.give_group.Tie as tie
 use Rattle.faults.proofs.give_group.Reads as reads
 use Rattle.faults.proofs.give_group.Lts as lts
-use Rattle.circuit.proofs.wide.Reads as wide-reads
+use Rattle.basics.proofs.wide.Reads as wide-reads
 use Rattle.faults.proofs.give.Reads as give-reads
 use Rattle.faults.proofs.line_of.Reads as line-of-reads
 

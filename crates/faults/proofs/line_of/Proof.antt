@@ -4,7 +4,7 @@ use Rattle.faults.proofs.line_of.Statement.{statement}
 use Rattle.faults.proofs.line_of.Tie as tie
 use Rattle.faults.proofs.line_of.Reads as reads
 use Rattle.faults.proofs.line_of.Lts as lts
-use Rattle.circuit.proofs.word_at.Reads as word-at-reads
+use Rattle.basics.proofs.word_at.Reads as word-at-reads
 
 mul-word-at : tie.Need-mul-word-at
 mul-word-at c = search needs

@@ -7,7 +7,7 @@ use Rattle.job.proofs.check_count.Tie as tie
 use Rattle.job.proofs.check_count.Reads as reads
 use Rattle.job.proofs.check_count.Lts as lts
 use Rattle.rules.proofs.Check.refuse.Reads as refuse-reads
-use Rattle.rules.proofs.either.Reads as either-reads
+use Rattle.basics.proofs.either.Reads as either-reads
 
 either-requires : tie.Need-either-requires
 either-requires c κs = search needs

@@ -7,7 +7,7 @@ use Rattle.job.proofs.check_units.Tie as tie
 use Rattle.job.proofs.check_units.Reads as reads
 use Rattle.job.proofs.check_units.Lts as lts
 use Rattle.rules.proofs.Check.refuse.Reads as refuse-reads
-use Rattle.rules.proofs.either.Reads as either-reads
+use Rattle.basics.proofs.either.Reads as either-reads
 
 rem-either : tie.Need-rem-either
 rem-either c = search needs

@@ -8,7 +8,7 @@ use Rattle.job.proofs.fault_fits.Reads as reads
 use Rattle.job.proofs.fault_fits.Lts as lts
 use Rattle.circuit.proofs.fault_of.Reads as fault-of-reads
 use Rattle.circuit.proofs.pins_of.Reads as pins-of-reads
-use Rattle.rules.proofs.both.Reads as both-reads
+use Rattle.basics.proofs.both.Reads as both-reads
 
 fault-of-requires : tie.Need-fault-of-requires
 fault-of-requires c κs = search needs

@@ -8,7 +8,7 @@ use Rattle.rules.proofs.check_pins.Reads as reads
 use Rattle.rules.proofs.check_pins.Lts as lts
 use Rattle.rules.proofs.Check.or.Reads as or-reads
 use Rattle.rules.proofs.Check.refuse.Reads as refuse-reads
-use Rattle.rules.proofs.either.Reads as either-reads
+use Rattle.basics.proofs.either.Reads as either-reads
 use Rattle.rules.proofs.limit_of.Reads as limit-of-reads
 use Rattle.circuit.proofs.mark_of.Reads as mark-of-reads
 use Rattle.rules.proofs.misnames_from.Reads as misnames-from-reads

@@ -6,7 +6,7 @@ use Rattle.rules.proofs.check_sizes.Tie as tie
 use Rattle.rules.proofs.check_sizes.Reads as reads
 use Rattle.rules.proofs.check_sizes.Lts as lts
 use Rattle.rules.proofs.Check.refuse.Reads as refuse-reads
-use Rattle.rules.proofs.either.Reads as either-reads
+use Rattle.basics.proofs.either.Reads as either-reads
 
 either-requires : tie.Need-either-requires
 either-requires c κs = search needs

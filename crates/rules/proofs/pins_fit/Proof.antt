@@ -7,7 +7,7 @@ use Rattle.rules.proofs.pins_fit.Statement.{statement}
 use Rattle.rules.proofs.pins_fit.Tie as tie
 use Rattle.rules.proofs.pins_fit.Reads as reads
 use Rattle.rules.proofs.pins_fit.Lts as lts
-use Rattle.rules.proofs.both.Reads as both-reads
+use Rattle.basics.proofs.both.Reads as both-reads
 
 both-requires : tie.Need-both-requires
 both-requires c κs = search needs

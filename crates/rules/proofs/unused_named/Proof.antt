@@ -9,7 +9,7 @@ use Rattle.rules.proofs.unused_named.Statement.{statement}
 use Rattle.rules.proofs.unused_named.Tie as tie
 use Rattle.rules.proofs.unused_named.Reads as reads
 use Rattle.rules.proofs.unused_named.Lts as lts
-use Rattle.rules.proofs.both.Reads as both-reads
+use Rattle.basics.proofs.both.Reads as both-reads
 use Rattle.circuit.proofs.pin_of.Reads as pin-of-reads
 
 abbrev Inv-loop : tie.InvT-loop

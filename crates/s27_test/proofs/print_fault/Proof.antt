@@ -7,7 +7,7 @@ use Rattle.s27_test.proofs.print_fault.Tie as tie
 use Rattle.s27_test.proofs.print_fault.Reads as reads
 use Rattle.s27_test.proofs.print_fault.Lts as lts
 use Rattle.circuit.proofs.fault_of.Reads as fault-of-reads
-use Rattle.circuit.proofs.wide.Reads as wide-reads
+use Rattle.basics.proofs.wide.Reads as wide-reads
 use Rattle.s27_test.proofs.print.Reads as print-reads
 use Rattle.s27_test.proofs.print_number.Reads as print-number-reads
 use Rattle.s27_test.proofs.print_time.Reads as print-time-reads

@@ -6,8 +6,8 @@ use Rattle.simulate_test.proofs.report.Statement.{statement}
 use Rattle.simulate_test.proofs.report.Tie as tie
 use Rattle.simulate_test.proofs.report.Reads as reads
 use Rattle.simulate_test.proofs.report.Lts as lts
-use Rattle.circuit.proofs.wide.Reads as wide-reads
-use Rattle.rules.proofs.both.Reads as both-reads
+use Rattle.basics.proofs.wide.Reads as wide-reads
+use Rattle.basics.proofs.both.Reads as both-reads
 use Rattle.simulate_test.proofs.kept.Reads as kept-reads
 use Rattle.simulate_test.proofs.print.Reads as print-reads
 use Rattle.simulate_test.proofs.print_kept.Reads as print-kept-reads

@@ -6,7 +6,7 @@ use Rattle.simulate_test.proofs.run_job.Statement.{statement}
 use Rattle.simulate_test.proofs.run_job.Tie as tie
 use Rattle.simulate_test.proofs.run_job.Reads as reads
 use Rattle.simulate_test.proofs.run_job.Lts as lts
-use Rattle.circuit.proofs.word_at.Reads as word-at-reads
+use Rattle.basics.proofs.word_at.Reads as word-at-reads
 use Rattle.simulate.proofs.simulate.Reads as simulate-reads
 use Rattle.simulate_test.proofs.fill.Reads as fill-reads
 use Rattle.simulate_test.proofs.print.Reads as print-reads

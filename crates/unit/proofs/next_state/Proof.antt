@@ -11,7 +11,7 @@ use Rattle.unit.proofs.next_state.Statement.{statement}
 use Rattle.unit.proofs.next_state.Tie as tie
 use Rattle.unit.proofs.next_state.Reads as reads
 use Rattle.unit.proofs.next_state.Lts as lts
-use Rattle.circuit.proofs.wide.Reads as wide-reads
+use Rattle.basics.proofs.wide.Reads as wide-reads
 use Rattle.unit.proofs.pin_lanes.Reads as pin-lanes-reads
 use Rattle.lanes.proofs.store.Reads as store-reads
 

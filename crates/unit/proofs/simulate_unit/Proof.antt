@@ -16,8 +16,8 @@ use Rattle.unit.proofs.simulate_unit.Tie as tie
 use Rattle.unit.proofs.simulate_unit.Reads as reads
 use Rattle.unit.proofs.simulate_unit.Lts as lts
 use Rattle.circuit.proofs.kind_of.Reads as kind-of-reads
-use Rattle.circuit.proofs.one_if.Reads as one-if-reads
-use Rattle.circuit.proofs.wide.Reads as wide-reads
+use Rattle.basics.proofs.one_if.Reads as one-if-reads
+use Rattle.basics.proofs.wide.Reads as wide-reads
 use Rattle.unit.proofs.behind_lanes.Reads as behind-lanes-reads
 use Rattle.lanes.proofs.store.Reads as store-reads
 use Rattle.unit.proofs.seen_at.Reads as seen-at-reads

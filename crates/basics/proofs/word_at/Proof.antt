@@ -1,11 +1,11 @@
 use native.Mathlib.Omega.{arith}
 use Rattle.lists.specs.Field.{word16}
 use borrow.Author.Needs.{needs}
-use Rattle.circuit.proofs.word_at.Statement.{statement}
-use Rattle.circuit.proofs.word_at.Tie as tie
-use Rattle.circuit.proofs.word_at.Reads as reads
-use Rattle.circuit.proofs.word_at.Lts as lts
-use Rattle.circuit.proofs.wide.Reads as wide-reads
+use Rattle.basics.proofs.word_at.Statement.{statement}
+use Rattle.basics.proofs.word_at.Tie as tie
+use Rattle.basics.proofs.word_at.Reads as reads
+use Rattle.basics.proofs.word_at.Lts as lts
+use Rattle.basics.proofs.wide.Reads as wide-reads
 
 shared-slice-read-wide : tie.Need-shared-slice-read-wide
 shared-slice-read-wide c = search needs

@@ -1,0 +1,57 @@
+use mathlib.Core.Path.{_≡_}
+use Prim.Native.Nat.{ℕ, _*_, _<_, _≤_}
+use native.Mathlib.Omega.{arith}
+use borrow.Author.Needs.{needs}
+use Rattle.circuit.proofs.Laws.{flops-bytes, outputs-bytes, flops-listed, outputs-listed}
+use Rattle.circuit.proofs.list_tables.Statement.{statement}
+use Rattle.circuit.proofs.list_tables.Tie as tie
+
+-- places
+abbrev pinned : tie.After-list-lines-arg → tie.After-list-pins
+pinned c = c .before .before .before
+
+abbrev flopped : tie.After-list-lines-arg2 → tie.After-list-lines
+flopped c = c .before .before .before
+
+abbrev start : tie.After-list-pins → tie.Start
+start c = c .before .before .before .before .before .before
+
+list-pins-requires : tie.Need-list-pins-requires
+list-pins-requires c κs = search needs
+
+list-lines-requires : tie.Need-list-lines-requires
+list-lines-requires c κs =
+    let pre = start (pinned c) .pre in
+    rw (pre .1, flops-bytes (start (pinned c) .args .c .now) .1) (pre .0 .size, pre .0 .lines, omega arith, omega (arith, pre .0 .flipFlops, pre .3))
+
+list-lines-requires-2 : tie.Need-list-lines-requires-2
+list-lines-requires-2 c κs =
+    let begin = start (pinned (flopped c .before)) in
+    let pre = begin .pre in
+    rw (pre .1, outputs-bytes (begin .args .c .now) .1) (pre .0 .size, pre .0 .lines, omega arith, omega (arith, pre .0 .outputs, pre .4))
+
+same-length : tie.Need-same-length
+same-length c = search needs
+
+same-length-2 : tie.Need-same-length-2
+same-length-2 c = search needs
+
+same-length-3 : tie.Need-same-length-3
+same-length-3 c = search needs
+
+returns : tie.Need-returns
+returns c =
+    let outs = c .before .before in
+    let flops = flopped (outs .before) in
+    let pins = pinned (flops .before) in
+    let begin = start pins in
+    record {
+      pinTable = pins .list-pins .ensures;
+      flopTable = flops-listed _ _ _ (begin .pre .1) (flops .list-lines .ensures);
+      outputTable = outputs-listed _ _ _ (begin .pre .1) (outs .list-lines2 .ensures);
+    }
+
+pub list-tables-spec : {M : Type 1} → statement M
+list-tables-spec =
+    tie.close
+    (tie.spec list-pins-requires list-lines-requires list-lines-requires-2 same-length same-length-2 same-length-3 returns)
