@@ -11,14 +11,14 @@ use native.Mathlib.Decide.{decLe}
 use native.Mathlib.Nat.{div-add-mod', zero-mul}
 use borrow.Author.Tests.{eqb-true, leb-true, leb-false, ltb-true, ltb-false, not-false, ne-eqb, le-leb}
 use Rattle.lists.specs.Scan.{firstAnswer}
-use Rattle.model.specs.Inputs.{N, kind, pinCount, pinLine, isFlipFlop, isGate, I, F, O, L, Fault, faultCount, faultAt}
-use Rattle.model.specs.Refusals.{refuse, row1, pinsFit, strayBytes, misnamed, misnames, rows2to5, row6, circuitRows, row7, row8, row9, faultFits, row10, row11, row12, row13, row14, gradeRefusal, chooseRefusal}
-use Rattle.model.specs.Accepted.{ValidCircuit, ValidTest, ValidFault}
+use Rattle.model.specs.Inputs.{N, kind, pinCount, pinLine, isFlipFlop, isGate, I, F, O, L, Fault, faultCount, faultAt, planCount}
+use Rattle.model.specs.Refusals.{refuse, row1, pinsFit, strayBytes, misnamed, misnames, rows2to5, row6, circuitRows, row7, row8, row9, faultFits, row10, row11, row12, row15, workBytes, row13, row14, inputRows, simulateRefusal, gradeRefusal, chooseRefusal, groupRefusal}
+use Rattle.model.specs.Accepted.{ValidCircuit, ValidTest, ValidFault, ValidInputs, SimulateReady, GradeReady, ChooseReady, GroupReady}
 use Rattle.lists.proofs.Tests.{and-left, and-right, or-left-false, or-right-false}
 use Rattle.lists.proofs.Scan.{else-none, firstAnswer-none, anyBelow-false}
 use Rattle.model.proofs.Total.{TotalRow, bit-total}
 use Rattle.model.proofs.Implication.{gate-kind}
-use Rattle.model.proofs.Sound.{Accepted}
+use Rattle.model.proofs.Sound.{FaultJob}
 
 pub refuse-none : (b : Bool) (number position : ℕ) → refuse b number position ≡ none → b ≡ false
 unfolding refuse
@@ -172,55 +172,102 @@ validFault c fs j e h =
     fault-fits c (faultAt fs j)
     (not-false _ (refuse-none _ 10 j (firstAnswer-none (λ j. refuse (not (faultFits c (faultAt fs j))) 10 j) (faultCount fs) j e h)))
 
--- ---- what the calls have in common: circuit, test and one fault
-pub accepted : (c t fs : List ℕ) (j : ℕ) → ValidCircuit c → ValidTest c t → row10 c fs ≡ none → j < faultCount fs → Accepted c t (faultAt fs j)
-accepted c t fs j circuit test e h = record {
-  circuit = circuit;
-  test = total-test t (test .bytes);
-  units = test .some;
-  value = bit-total _ (omega (arith, validFault c fs j e h .value));
-}
+fault-bytes : (fs : List ℕ) → length fs % 4 ≡ 0 → length fs ≡ 4 * faultCount fs
+unfolding faultCount
+fault-bytes fs e = omega arith
 
--- ---- a job that Grade accepts
-pub record GradeJob (c t fs p : List ℕ) (k work result : ℕ) : Type 0 where
-  pub circuit : ValidCircuit c
-  pub test : ValidTest c t
-  pub faults : row10 c fs ≡ none
-  pub limit : k ≤ 12
-  pub room : 16 * faultCount fs ≤ result
-
-pub gradeJob : (c t fs p : List ℕ) (k work result : ℕ) → gradeRefusal c t fs p k work result ≡ none → GradeJob c t fs p k work result
-unfolding gradeRefusal row12 row14
-gradeJob c t fs p k work result e =
+pub validInputs : (c t : List ℕ) (least most : ℕ) (fs : List ℕ) → inputRows c t least most fs ≡ none → ValidInputs c t least most fs
+unfolding inputRows row9
+validInputs c t least most fs e =
     let a = else-none (circuitRows c) _ e in
     let b = else-none (row7 c t) _ (a .1) in
     let d = else-none (row8 t) _ (b .1) in
-    let f = else-none (row9 0 32768 fs) _ (d .1) in
-    let g = else-none (row10 c fs) _ (f .1) in
-    let h = else-none (row11 p) _ (g .1) in
-    let i = else-none (row12 k) _ (h .1) in
-    let j = else-none (row13 c t work) _ (i .1) in
+    let g = else-none (row9 least most fs) _ (d .1) in
+    let size : not (eqb (length fs % 4) 0) || ltb (faultCount fs) least || ltb most (faultCount fs) ≡ false = refuse-none _ 9 0 (g .0) in
+    let low : not (eqb (length fs % 4) 0) || ltb (faultCount fs) least ≡ false = or-left-false _ _ size in
     record {
       circuit = validCircuit c (a .0);
       test = validTest c t (b .0) (d .0);
-      faults = g .0;
-      limit = ltb-false 12 k (refuse-none _ 12 0 (i .0));
-      room = ltb-false result (16 * faultCount fs) (refuse-none _ 14 0 (j .1));
+      whole = fault-bytes fs (eqb-true _ _ (not-false _ (or-left-false _ _ low)));
+      enough = ltb-false (faultCount fs) least (or-right-false (not (eqb (length fs % 4) 0)) _ low);
+      few = ltb-false most (faultCount fs) (or-right-false (not (eqb (length fs % 4) 0) || ltb (faultCount fs) least) _ size);
+      fault = λ j h. validFault c fs j (g .1) h;
     }
 
--- ---- a job that Choose accepts
-pub record ChooseJob (c t : List ℕ) (k : ℕ) : Type 0 where
-  pub circuit : ValidCircuit c
-  pub test : ValidTest c t
-  pub limit : k ≤ 12
+-- one of the faults
+pub faultJob : {c t fs : List ℕ} {least most : ℕ} → ValidInputs c t least most fs → (j : ℕ) → j < faultCount fs → FaultJob c t (faultAt fs j)
+faultJob {t = t} valid j h = record {
+  circuit = valid .circuit;
+  test = total-test t (valid .test .bytes);
+  units = valid .test .some;
+  value = bit-total _ (omega (arith, valid .fault j h .value));
+}
 
-pub chooseJob : (c t fs : List ℕ) (k work result : ℕ) → chooseRefusal c t fs k work result ≡ none → ChooseJob c t k
-unfolding chooseRefusal row12
-chooseJob c t fs k work result e =
-    let a = else-none (circuitRows c) _ e in
-    let b = else-none (row7 c t) _ (a .1) in
-    let d = else-none (row8 t) _ (b .1) in
-    let f = else-none (row9 1 1 fs) _ (d .1) in
-    let g = else-none (row10 c fs) _ (f .1) in
-    let h = else-none (row12 k) _ (g .1) in
-    record { circuit = validCircuit c (a .0); test = validTest c t (b .0) (d .0); limit = ltb-false 12 k (refuse-none _ 12 0 (h .0)) }
+-- ---- plan, k and the two areas
+plan-fits : (p : List ℕ) → row11 p ≡ none → (length p ≡ 4 * planCount p) × (planCount p ≤ 4096)
+unfolding row11 planCount
+plan-fits p e =
+    let size : not (eqb (length p % 4) 0) || ltb 4096 (length p / 4) ≡ false = refuse-none _ 11 0 e in
+    let whole : length p % 4 ≡ 0 = eqb-true _ _ (not-false _ (or-left-false _ _ size)) in
+    (omega arith, ltb-false 4096 _ (or-right-false (not (eqb (length p % 4) 0)) _ size))
+
+k-fits : (k : ℕ) → row12 k ≡ none → k ≤ 12
+unfolding row12
+k-fits k e = ltb-false 12 k (refuse-none _ 12 0 e)
+
+work-fits : (c t : List ℕ) (work : ℕ) → row13 c t work ≡ none → workBytes c t ≤ work
+unfolding row13
+work-fits c t work e = ltb-false work _ (refuse-none _ 13 0 e)
+
+result-fits : (size result : ℕ) → row14 size result ≡ none → size ≤ result
+unfolding row14
+result-fits size result e = ltb-false result size (refuse-none _ 14 0 e)
+
+-- ---- the calls
+pub simulateReady : (c t fs : List ℕ) (work result : ℕ) → simulateRefusal c t fs work result ≡ none → SimulateReady c t fs work result
+unfolding simulateRefusal
+simulateReady c t fs work result e =
+    let a = else-none (inputRows c t 0 1 fs) _ e in
+    let b = else-none (row13 c t work) _ (a .1) in
+    record { inputs = validInputs c t 0 1 fs (a .0); workRoom = work-fits c t work (b .0); resultRoom = result-fits _ result (b .1) }
+
+pub gradeReady : (c t fs p : List ℕ) (k work result : ℕ) → gradeRefusal c t fs p k work result ≡ none → GradeReady c t fs p k work result
+unfolding gradeRefusal
+gradeReady c t fs p k work result e =
+    let a = else-none (inputRows c t 0 32768 fs) _ e in
+    let b = else-none (row11 p) _ (a .1) in
+    let d = else-none (row12 k) _ (b .1) in
+    let g = else-none (row13 c t work) _ (d .1) in
+    record {
+      inputs = validInputs c t 0 32768 fs (a .0);
+      plan = plan-fits p (b .0) .0;
+      pairs = plan-fits p (b .0) .1;
+      limit = k-fits k (d .0);
+      workRoom = work-fits c t work (g .0);
+      resultRoom = result-fits _ result (g .1);
+    }
+
+pub chooseReady : (c t fs : List ℕ) (k work result : ℕ) → chooseRefusal c t fs k work result ≡ none → ChooseReady c t fs k work result
+unfolding chooseRefusal
+chooseReady c t fs k work result e =
+    let a = else-none (inputRows c t 1 1 fs) _ e in
+    let b = else-none (row12 k) _ (a .1) in
+    let d = else-none (row13 c t work) _ (b .1) in
+    record {
+      inputs = validInputs c t 1 1 fs (a .0);
+      limit = k-fits k (b .0);
+      workRoom = work-fits c t work (d .0);
+      resultRoom = result-fits _ result (d .1);
+    }
+
+pub groupReady : (vs : List ℕ) (result : ℕ) → groupRefusal vs result ≡ none → GroupReady vs result
+unfolding groupRefusal row15
+groupReady vs result e =
+    let a = else-none (row15 vs) _ e in
+    let size : not (eqb (length vs % 16) 0) || ltb 524288 (length vs) ≡ false = refuse-none _ 15 0 (a .0) in
+    let whole : length vs % 16 ≡ 0 = eqb-true _ _ (not-false _ (or-left-false _ _ size)) in
+    record {
+      whole = omega arith;
+      most = ltb-false 524288 _ (or-right-false (not (eqb (length vs % 16) 0)) _ size);
+      resultRoom = result-fits _ result (a .1);
+    }

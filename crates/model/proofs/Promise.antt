@@ -11,7 +11,7 @@ use Rattle.model.specs.Inputs.{Fault}
 use Rattle.model.specs.Starts.{freeBits, startCount, differs}
 use Rattle.model.specs.Grade.{Verdict, placed, counted, grade}
 use Rattle.model.specs.Promises.{EveryDiffers, LowestNever, Promise}
-use Rattle.model.proofs.Sound.{Accepted, stage1-sound, stage2-sound, stage3-sound, stage4-sound, stage5-sound}
+use Rattle.model.proofs.Sound.{FaultJob, stage1-sound, stage2-sound, stage3-sound, stage4-sound, stage5-sound}
 use Rattle.model.proofs.Stages.{before-case, after-case, grade-cases}
 
 -- ---- the three ways to keep the promise
@@ -52,7 +52,7 @@ unfolding startCount
 start-zero c = pow-pos (freeBits c)
 
 -- for every plan and k
-pub promise : (c t : List ℕ) (f : Fault) → Accepted c t f → (p : List ℕ) (k : ℕ)
+pub promise : (c t : List ℕ) (f : Fault) → FaultJob c t f → (p : List ℕ) (k : ℕ)
     → Promise c t f k (grade c t f p k .verdict) (grade c t f p k .start)
 unfolding placed counted
 promise c t f a p k =

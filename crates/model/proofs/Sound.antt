@@ -29,7 +29,7 @@ use Rattle.model.proofs.Runs.{flipFlopLine-holds, length-nextState, len
 use Rattle.model.proofs.Rows.{giveRow-allows, rows-agree, whereX-allows, unknown-allows, set-allows, length-bits, bits-total, someOppose-select, closed-row, countX-unknown}
 
 -- what an accepted job gives of its circuit, its test and one of its faults
-pub record Accepted (c t : List ℕ) (f : Fault) : Type 0 where
+pub record FaultJob (c t : List ℕ) (f : Fault) : Type 0 where
   pub circuit : ValidCircuit c
   pub test : TotalRow t
   pub units : 0 < L c t
@@ -72,7 +72,7 @@ module _ (c t : List ℕ) (f : Fault) where
   unfolding taken
   taken-named p k = takenOf-named p k (planCount p)
 
-module _ (c t : List ℕ) (f : Fault) (a : Accepted c t f) where
+module _ (c t : List ℕ) (f : Fault) (a : FaultJob c t f) where
   inputs-total : (u : ℕ) → TotalRow (inputsAt c t u)
   unfolding inputsAt
   inputs-total u = take-total (I c) _ (drop-total (I c * u) t (a .test))

@@ -10,11 +10,11 @@ use mathlib.Core.Bool.{false}
 use borrow.Author.Tests.{ne-eqb}
 use Rattle.model.specs.Inputs.{N, Fault, faultCount, faultAt}
 use Rattle.model.specs.Refusals.{circuitRows, gradeRefusal, chooseRefusal}
-use Rattle.model.specs.Accepted.{ValidCircuit}
+use Rattle.model.specs.Accepted.{ValidCircuit, GradeReady, ChooseReady}
 use Rattle.model.specs.Simulation.{noFault, isStuck}
 use Rattle.model.specs.Grade.{grade, recordBytes, recordAt, gradeArea}
 use Rattle.model.specs.Promises.{Demand3, InBounds, recordPart, WellChosen}
-use Rattle.model.proofs.Accepted.{validCircuit, GradeJob, gradeJob, accepted, ChooseJob, chooseJob}
+use Rattle.model.proofs.Accepted.{validCircuit, faultJob, gradeReady, chooseReady}
 use Rattle.model.proofs.Promise.{promise}
 use Rattle.model.proofs.Bounds.{bounds}
 use Rattle.model.proofs.Records.{area-part, area-record}
@@ -23,8 +23,8 @@ use Rattle.model.proofs.Choose.{well-chosen}
 module _ (c t fs p : List ℕ) (k work : ℕ) (old : List ℕ) (e : gradeRefusal c t fs p k work (length old) ≡ none) (j : ℕ) (h : j < faultCount fs) where
   verdict-bounds : InBounds k (grade c t (faultAt fs j) p k)
   verdict-bounds =
-      let job : GradeJob c t fs p k work (length old) = gradeJob c t fs p k work (length old) e in
-      bounds c t (faultAt fs j) p k (job .circuit .lines) (job .test .most) (job .limit)
+      let ready : GradeReady c t fs p k work (length old) = gradeReady c t fs p k work (length old) e in
+      bounds c t (faultAt fs j) p k (ready .inputs .circuit .lines) (ready .inputs .test .most) (ready .limit)
 
   -- the record that Grade writes for fault j reads back as that fault's verdict: nothing is lost in the 16 bytes
   pub reads-back : recordAt (gradeArea c t fs p k work old) j ≡ grade c t (faultAt fs j) p k
@@ -37,9 +37,8 @@ module _ (c t fs p : List ℕ) (k work : ℕ) (old : List ℕ) (e : gradeRefusal
 -- demand 3, of the bytes that Grade writes
 pub demand-three : (c t fs p : List ℕ) (k work : ℕ) (old : List ℕ) → Demand3 c t fs p k work old (gradeArea c t fs p k work old)
 demand-three c t fs p k work old e j h =
-    let job : GradeJob c t fs p k work (length old) = gradeJob c t fs p k work (length old) e in
     rw (reads-back c t fs p k work old e j h)
-    (promise c t (faultAt fs j) (accepted c t fs j (job .circuit) (job .test) (job .faults) h) p k)
+    (promise c t (faultAt fs j) (faultJob (gradeReady c t fs p k work (length old) e .inputs) j h) p k)
 
 -- a record depends on its own fault, never on others in the list
 pub own-fault : (c t fs gs p : List ℕ) (k work room : ℕ) (old held : List ℕ)
@@ -54,8 +53,9 @@ own-fault c t fs gs p k work room old held e d j i h l same =
 -- Choose's pairs, for every job that it accepts
 pub chosen-well : (c t fs : List ℕ) (k work result : ℕ) → chooseRefusal c t fs k work result ≡ none → WellChosen c t (faultAt fs 0) k
 chosen-well c t fs k work result e =
-    let job : ChooseJob c t k = chooseJob c t fs k work result e in
-    well-chosen c t (faultAt fs 0) k (omega (arith, job .test .most)) (omega (arith, job .circuit .flipFlops)) (omega (arith, job .limit))
+    let ready : ChooseReady c t fs k work result = chooseReady c t fs k work result e in
+    well-chosen c t (faultAt fs 0) k
+    (omega (arith, ready .inputs .test .most)) (omega (arith, ready .inputs .circuit .flipFlops)) (omega (arith, ready .limit))
 
 -- the fault-free circuit has no stuck line or pin: `noFault` names no line of a circuit that is accepted
 pub fault-free : (c : List ℕ) → circuitRows c ≡ none → (n pin : ℕ) → n < N c → isStuck noFault n pin ≡ false

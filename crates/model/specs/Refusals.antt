@@ -103,18 +103,19 @@ row14 size result = refuse (ltb result size) 14 0
 
 -- The first that applies, down the table, is returned; a call skips rows on what it does not take.
 
+-- rows 1 to 10, which Simulate, Grade and Choose share
+unfoldable pub inputRows : List ℕ → List ℕ → ℕ → ℕ → List ℕ → Refusal
+inputRows c t least most fs = circuitRows c else row7 c t else row8 t else row9 least most fs else row10 c fs
+
 unfoldable pub simulateRefusal : List ℕ → List ℕ → List ℕ → ℕ → ℕ → Refusal
-simulateRefusal c t fs work result =
-    circuitRows c else row7 c t else row8 t else row9 0 1 fs else row10 c fs else row13 c t work else row14 (L c t * O c) result
+simulateRefusal c t fs work result = inputRows c t 0 1 fs else row13 c t work else row14 (L c t * O c) result
 
 unfoldable pub gradeRefusal : List ℕ → List ℕ → List ℕ → List ℕ → ℕ → ℕ → ℕ → Refusal
 gradeRefusal c t fs p k work result =
-    circuitRows c else row7 c t else row8 t else row9 0 32768 fs else row10 c fs else row11 p else row12 k
-    else row13 c t work else row14 (16 * faultCount fs) result
+    inputRows c t 0 32768 fs else row11 p else row12 k else row13 c t work else row14 (16 * faultCount fs) result
 
 unfoldable pub chooseRefusal : List ℕ → List ℕ → List ℕ → ℕ → ℕ → ℕ → Refusal
-chooseRefusal c t fs k work result =
-    circuitRows c else row7 c t else row8 t else row9 1 1 fs else row10 c fs else row12 k else row13 c t work else row14 (4 * k) result
+chooseRefusal c t fs k work result = inputRows c t 1 1 fs else row12 k else row13 c t work else row14 (4 * k) result
 
 unfoldable pub groupRefusal : List ℕ → ℕ → Refusal
 groupRefusal vs result = row15 vs else row14 (2 * (length vs / 16)) result
