@@ -11,8 +11,9 @@ use lib.ListN.{getD, length, set, length-set, length-append, List·getD-append}
 use lib.Seq.{getD-at, getD-set-same, getD-set-other}
 use lib.Bits.{bitAnd, bitOr, bitXor}
 use Rattle.lists.proofs.Tests.{by-test}
-use Rattle.model.specs.Values.{invert, andPair, xorPair, andOf, orOf, invertAll, xorOf, evenGate, invertIf, opposes}
-use Rattle.lanes.specs.Lane.{bit, is0, is1, Shows, At, Lane}
+use Rattle.model.specs.Values.{invert, andPair, xorPair, andOf, orOf, invertAll, xorOf, evenGate, invertIf, opposes, give}
+use Rattle.lanes.specs.declared.Lanes.{Lanes}
+use Rattle.lanes.specs.Lane.{bit, is0, is1, Shows, Holds, Conflict, lanesAt, At, stored, Room, turnedIf, Lane, Given}
 use Rattle.lanes.proofs.Bits.{bit-and, bit-or, bit-xor, bit-none, bit-all, bit-one, xorB, other-odd, other-even}
 
 pub is0-inv : (v : ℕ) → is0 (invert v) ≡ is1 v
@@ -115,42 +116,63 @@ shows-stuck t z o v a b hit s l m h = record {
   one? = rw (bit-or t (bitXor (bitOr o a) a) b, bit-xor t (bitOr o a) a, bit-or t o a, m .zero?, m .one?, h .one?) (is-stuck hit s v l .1);
 }
 
--- one place's words are stored
+-- ---- lists of words
+-- what stands at a place once another place, and once this place, was stored
+stored-other : (ws : List ℕ) (n m : ℕ) (x : Lanes) → (m ≡ n → ⊥) → lanesAt (stored ws n x) m ≡ lanesAt ws m
+stored-other ws n m x ne =
+    rw (
+      getD-set-other (set ws (2 * n) (x .zeros)) (2 * n + 1) (2 * m) (x .ones) 0 (λ e. omega arith),
+      getD-set-other (set ws (2 * n) (x .zeros)) (2 * n + 1) (2 * m + 1) (x .ones) 0 (λ e. ne (omega arith)),
+      getD-set-other ws (2 * n) (2 * m) (x .zeros) 0 (λ e. ne (omega arith)),
+      getD-set-other ws (2 * n) (2 * m + 1) (x .zeros) 0 (λ e. omega arith),
+    )
+
+stored-same : (ws : List ℕ) (n : ℕ) (x : Lanes) → Room (n + 1) ws → lanesAt (stored ws n x) n ≡ x
+stored-same ws n x l =
+    rw (
+      getD-set-other (set ws (2 * n) (x .zeros)) (2 * n + 1) (2 * n) (x .ones) 0 (λ e. omega arith),
+      getD-set-same ws (2 * n) (x .zeros) 0 (omega arith),
+      getD-set-same (set ws (2 * n) (x .zeros)) (2 * n + 1) (x .ones) 0 (omega (arith, length-set ws (2 * n) (x .zeros))),
+    )
+
+pub holds-as : (t : ℕ) (x y : Lanes) (v : ℕ) → x ≡ y → Holds t y v → Holds t x v
+holds-as t x y v e h = rw e h
+
+pub length-stored : (ws : List ℕ) (n : ℕ) (x : Lanes) → length (stored ws n x) ≡ length ws
+length-stored ws n x = simp length-set
+
 module _ (t : ℕ) (ws vs : List ℕ) where
   pub lane-at : (m : ℕ) → Lane t ws vs → m < length vs → At t ws m (getD vs m 2)
   unfolding Lane
   lane-at m h l = h m l
 
-  pub lane-add : (n z o v : ℕ) → length vs ≡ n → 2 * n + 2 ≤ length ws → Lane t ws vs → Shows t z o v
-      → Lane t (set (set ws (2 * n) z) (2 * n + 1) o) (vs ++ (v ∷ []))
+  -- the lanes that were read at place m
+  pub lane-read : (r : Lanes) (m : ℕ) → r ≡ lanesAt ws m → Lane t ws vs → m < length vs → Holds t r (getD vs m 2)
+  lane-read r m e h l = holds-as t r _ _ e (lane-at m h l)
+
+  -- one place more
+  pub lane-add : (n : ℕ) (x : Lanes) (v : ℕ) → length vs ≡ n → Room (n + 1) ws → Lane t ws vs → Holds t x v → Lane t (stored ws n x) (vs ++ (v ∷ []))
   unfolding Lane
-  lane-add n z o v e l h g m k = elim (decLe (suc m) n) [
-    | yes q ↦ rw (
-      getD-set-other (set ws (2 * n) z) (2 * n + 1) (2 * m) o 0 (λ x. omega arith),
-      getD-set-other (set ws (2 * n) z) (2 * n + 1) (2 * m + 1) o 0 (λ x. omega arith),
-      getD-set-other ws (2 * n) (2 * m) z 0 (λ x. omega arith),
-      getD-set-other ws (2 * n) (2 * m + 1) z 0 (λ x. omega arith),
-      List·getD-append vs (v ∷ []) 2 m (omega arith),
-    ) (h m (omega arith))
-    | no q ↦ (let s : m ≡ n = omega (arith, length-append vs (v ∷ [])) in
-        rw (
-          s,
-          getD-set-other (set ws (2 * n) z) (2 * n + 1) (2 * n) o 0 (λ x. omega arith),
-          getD-set-same ws (2 * n) z 0 (omega arith),
-          getD-set-same (set ws (2 * n) z) (2 * n + 1) o 0 (omega (arith, length-set ws (2 * n) z)),
-          getD-at vs v [] 2 n e,
-        ) g)
+  lane-add n x v e l h g m k = elim (decLe (suc m) n) [
+    | yes q ↦ holds-as t _ _ _ (stored-other ws n m x (λ s. omega arith)) (rw (List·getD-append vs (v ∷ []) 2 m (omega arith)) (h m (omega arith)))
+    | no q ↦ (let s : m ≡ n = omega (arith, length-append vs (v ∷ [])) in rw s (holds-as t _ _ _ (stored-same ws n x l) (rw (getD-at vs v [] 2 n e) g)))
   ]
 
   pub lane-none : length vs ≡ 0 → Lane t ws vs
   unfolding Lane
   lane-none e m h = absurd (let z : ⊥ = omega arith in z)
 
+pub holds-turned : (t : ℕ) (x : Lanes) (v : ℕ) (turned : Bool) → Holds t x v → Holds t (turnedIf turned x) (invertIf turned v)
+unfolding turnedIf invertIf
+holds-turned t x v true h = shows-inv t _ _ v h
+holds-turned t x v false h = h
+
 -- the two words of a place, read in either order
-pub shows-turned : (t : ℕ) (ws : List ℕ) (x m v : ℕ) (turned : Bool) → x ≡ 2 * m + cond turned 1 0 → At t ws m v → Shows t (getD ws x 0) (getD ws (bitXor x 1) 0) (invertIf turned v)
-unfolding invertIf
-shows-turned t ws x m v true e h = rw (other-even x m e, e) (shows-inv t _ _ v h)
-shows-turned t ws x m v false e h = let f : x ≡ 2 * m = omega arith in rw (other-odd x m f, f) h
+pub turned-read : (ws : List ℕ) (x m : ℕ) (turned : Bool) → x ≡ 2 * m + cond turned 1 0
+    → _≡_ {A = Lanes} record { zeros = getD ws x 0; ones = getD ws (bitXor x 1) 0 } (turnedIf turned (lanesAt ws m))
+unfolding turnedIf
+turned-read ws x m true e = rw (other-even x m e, e)
+turned-read ws x m false e = let f : x ≡ 2 * m = omega arith in rw (other-odd x m f, f)
 
 -- the halves of the kinds: one pin alone, and one more
 module _ (t z o v : ℕ) (h : Shows t z o v) where
@@ -258,3 +280,42 @@ unfolding opposes
 opposing-X t v zero h = absurd (let z : ⊥ = omega arith in z)
 opposing-X t v (suc zero) h = absurd (let z : ⊥ = omega arith in z)
 opposing-X t v (suc (suc g)) h = bit-none t
+
+-- ---- giving a value
+is-give : (v w : ℕ) → v < 3 → w < 3 → opposes v w ≡ false → ((is0 v || is0 w) ≡ is0 (give v w)) × ((is1 v || is1 w) ≡ is1 (give v w))
+unfolding is0 is1 opposes give
+is-give zero zero a b e = (refl, refl)
+is-give zero (suc zero) a b e = absurd (true≢false e)
+is-give zero (suc (suc zero)) a b e = (refl, refl)
+is-give zero (suc (suc (suc w))) a b e = absurd (let z : ⊥ = omega arith in z)
+is-give (suc zero) zero a b e = absurd (true≢false e)
+is-give (suc zero) (suc zero) a b e = (refl, refl)
+is-give (suc zero) (suc (suc zero)) a b e = (refl, refl)
+is-give (suc zero) (suc (suc (suc w))) a b e = absurd (let z : ⊥ = omega arith in z)
+is-give (suc (suc zero)) w a b e = (refl, refl)
+is-give (suc (suc (suc v))) w a b e = absurd (let z : ⊥ = omega arith in z)
+
+is-conflict : (v w : ℕ) → opposes v w ≡ true → ((is0 v || is0 w) ≡ true) × ((is1 v || is1 w) ≡ true)
+unfolding is0 is1 opposes
+is-conflict zero zero e = absurd (true≢false (sym e))
+is-conflict zero (suc zero) e = (refl, refl)
+is-conflict zero (suc (suc w)) e = absurd (true≢false (sym e))
+is-conflict (suc zero) zero e = (refl, refl)
+is-conflict (suc zero) (suc w) e = absurd (true≢false (sym e))
+is-conflict (suc (suc v)) w e = absurd (true≢false (sym e))
+
+module _ (t : ℕ) (x y : Lanes) where
+  abbrev joined : Lanes
+  joined = record { zeros = bitOr (x .zeros) (y .zeros); ones = bitOr (x .ones) (y .ones) }
+
+  pub given : (v w : ℕ) → v < 3 → w < 3 → Holds t x v → Holds t y w → Given t joined v w
+  given v w a b h g =
+      let zeros : bit t (bitOr (x .zeros) (y .zeros)) ≡ (is0 v || is0 w) = bit-or t (x .zeros) (y .zeros) ∙ rw (h .zero?, g .zero?) in
+      let ones : bit t (bitOr (x .ones) (y .ones)) ≡ (is1 v || is1 w) = bit-or t (x .ones) (y .ones) ∙ rw (h .one?, g .one?) in
+      record {
+        holds = λ e. record { zero? = zeros ∙ is-give v w a b e .0; one? = ones ∙ is-give v w a b e .1 };
+        conflict = λ e. record { zero? = zeros ∙ is-conflict v w e .0; one? = ones ∙ is-conflict v w e .1 };
+      }
+
+  pub conflict-stays : Conflict t x → Conflict t joined
+  conflict-stays h = record { zero? = bit-or t (x .zeros) (y .zeros) ∙ rw (h .zero?); one? = bit-or t (x .ones) (y .ones) ∙ rw (h .one?) }

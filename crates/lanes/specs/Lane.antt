@@ -5,7 +5,7 @@ use mathlib.Core.Bool.{Bool, true, false}
 use mathlib.Core.List.{List}
 use lib.Dec.{eqb}
 use lib.ListN.{getD, length, set}
-use Rattle.model.specs.Values.{X}
+use Rattle.model.specs.Values.{X, opposes, give, hasConflict}
 use Rattle.lanes.specs.declared.Lanes.{Lanes}
 
 -- bit t of x
@@ -29,9 +29,18 @@ pub record Shows (t z o v : ℕ) : Type 0 where
 abbrev pub Holds : ℕ → Lanes → ℕ → Type 0
 Holds t x v = Shows t (x .zeros) (x .ones) v
 
--- Lane t holds v at place m of a list of words, two to a place. How words are laid out is said here, and in `stored` and `Room` below.
+-- lane t of x holds a conflict: it is known to be 0 and known to be 1
+pub record Conflict (t : ℕ) (x : Lanes) : Type 0 where
+  pub zero? : bit t (x .zeros) ≡ true
+  pub one? : bit t (x .ones) ≡ true
+
+-- The lanes at place m of a list of words, two to a place. How words are laid out is said here, and in `stored` and `Room` below.
+abbrev pub lanesAt : List ℕ → ℕ → Lanes
+lanesAt words m = record { zeros = getD words (2 * m) 0; ones = getD words (2 * m + 1) 0 }
+
+-- lane t holds v at place m
 abbrev pub At : ℕ → List ℕ → ℕ → ℕ → Type 0
-At t words m v = Shows t (getD words (2 * m) 0) (getD words (2 * m + 1) 0) v
+At t words m v = Holds t (lanesAt words m) v
 
 -- the list with x at place m
 abbrev pub stored : List ℕ → ℕ → Lanes → List ℕ
@@ -41,6 +50,22 @@ stored words m x = set (set words (2 * m) (x .zeros)) (2 * m + 1) (x .ones)
 abbrev pub Room : ℕ → List ℕ → Type 0
 Room places words = 2 * places ≤ length words
 
+-- the inverse where `turned`: the same two words, in the other order
+unfoldable pub turnedIf : Bool → Lanes → Lanes
+turnedIf true x = record { zeros = x .ones; ones = x .zeros }
+turnedIf false x = x
+
 -- lane t of a list of words holds the values vs at its first places
 unfoldable pub Lane : ℕ → List ℕ → List ℕ → Type 0
 Lane t words vs = (m : ℕ) → m < length vs → At t words m (getD vs m X)
+
+-- Lane t of a list of words follows values that an implication gives: it holds them while no conflict is met, and once one is, some place
+-- holds a conflict. What else it holds then is no matter, so that the gates need not look for conflicts.
+pub record Follows (t : ℕ) (words vs : List ℕ) : Type 0 where
+  pub holds : hasConflict vs ≡ false → Lane t words vs
+  pub conflict : hasConflict vs ≡ true → (m : ℕ) × (m < length vs) × Conflict t (lanesAt words m)
+
+-- a line at v is given w: it holds what `give` says, or a conflict
+pub record Given (t : ℕ) (x : Lanes) (v w : ℕ) : Type 0 where
+  pub holds : opposes v w ≡ false → Holds t x (give v w)
+  pub conflict : opposes v w ≡ true → Conflict t x

@@ -1,12 +1,12 @@
-// 64 values at once, one in each lane: two 64-bit words, known 0 and known 1. X is neither. Giving a value is an OR, AND is an AND of the
-// ones and an OR of the zeros, inverting swaps the words.
-ghost use mathlib.Core.Bool.{Bool, cond};
+// 64 values at once, one in each lane: two 64-bit words, known 0 and known 1. X is neither, a conflict is both. Giving a value is an OR, AND is
+// an AND of the ones and an OR of the zeros, inverting swaps the words.
+ghost use mathlib.Core.Bool.{Bool, cond, _&&_};
 ghost use mathlib.Core.List.{List, _∷_};
 ghost use mathlib.Core.Path.{_≡_};
 ghost use Prim.Native.Nat.{ℕ, _+_, _*_, _<_, _≤_, _/_, _%_};
 ghost use lib.Dec.{eqb};
 ghost use Rattle.model.specs.Values.{X, invert, andPair, xorPair, orOf, evenGate, invertIf, inverts, opposes};
-ghost use Rattle.lanes.specs.Lane.{Holds, bit, At, Room, stored};
+ghost use Rattle.lanes.specs.Lane.{bit, Holds, Conflict, lanesAt, stored, Room, turnedIf, Given};
 
 pub struct Lanes {
     pub zeros: u64,
@@ -124,6 +124,23 @@ impl Lanes {
         }
     }
 
+    // With what y knows added. A conflict stays.
+    pub fn give(self, y: Lanes) -> Lanes
+        ensures { λ r. ⌜ ((t v w : ℕ) → v < 3 → w < 3 → Holds t self v → Holds t y w → Given t r v w) × ((t : ℕ) → Conflict t self → Conflict t r) ⌝ }
+    {
+        Lanes {
+            zeros: self.zeros | y.zeros,
+            ones: self.ones | y.ones,
+        }
+    }
+
+    // The lanes that hold a conflict.
+    pub fn conflicts(self) -> u64
+        ensures { λ r. ⌜ ((t : ℕ) → bit t r ≡ bit t (self .zeros) && bit t (self .ones)) ⌝ }
+    {
+        self.zeros & self.ones
+    }
+
     // The lanes in which this is opposite to a value.
     pub fn opposing(self, value: u8) -> u64
         ensures { λ r. ⌜ ((t v : ℕ) → Holds t self v → bit t r ≡ opposes value v) ⌝ }
@@ -153,7 +170,7 @@ impl Lanes {
 // The lanes at place m of a list.
 pub fn read(words: &[u64], m: usize) -> Lanes
     requires { ⌜ Room (m + 1) (now words) ⌝ }
-    ensures { λ r. ⌜ ((t v : ℕ) → At t (now (words .entry)) m v → Holds t r v) ⌝ }
+    ensures { λ r. ⌜ r ≡ lanesAt (now (words .entry)) m ⌝ }
 {
     Lanes {
         zeros: words[2 * m],
@@ -169,10 +186,10 @@ pub fn store(words: &mut [u64], m: usize, x: Lanes)
     words[2 * m + 1] = x.ones;
 }
 
-// The lanes at place m for the number 2 m, their inverse for 2 m + 1: the same two words, in the other order.
+// The lanes at place m for the number 2 m, their inverse for 2 m + 1.
 pub fn read_turned(words: &[u64], number: usize) -> Lanes
     requires { ⌜ Room (number / 2 + 1) (now words) ⌝ }
-    ensures { λ r. ⌜ ((t m v : ℕ) (turned : Bool) → number ≡ 2 * m + cond turned 1 0 → At t (now (words .entry)) m v → Holds t r (invertIf turned v)) ⌝ }
+    ensures { λ r. ⌜ ((m : ℕ) (turned : Bool) → number ≡ 2 * m + cond turned 1 0 → r ≡ turnedIf turned (lanesAt (now (words .entry)) m)) ⌝ }
 {
     let other = number ^ 1;
     Lanes {

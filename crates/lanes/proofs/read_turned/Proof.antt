@@ -1,6 +1,6 @@
 use native.Mathlib.Omega.{arith}
 use Rattle.lanes.proofs.Bits.{other-near}
-use Rattle.lanes.proofs.Laws.{shows-turned}
+use Rattle.lanes.proofs.Laws.{turned-read}
 use borrow.Author.Needs.{needs}
 use Rattle.lanes.proofs.read_turned.Statement.{statement}
 use Rattle.lanes.proofs.read_turned.Tie as tie
@@ -20,7 +20,7 @@ shared-slice-read-t9 : tie.Need-shared-slice-read-t9
 shared-slice-read-t9 c = omega (arith, c .before .before .pre, other-near (c .before .before .args .number))
 
 returns : tie.Need-returns
-returns c = λ t m v turned e h. shows-turned t (c .before .before .args .words .now) _ m v turned e h
+returns c = λ m turned e. turned-read (c .before .before .args .words .now) _ m turned e
 
 pub read-turned-spec : {M : Type 1} → statement M
 read-turned-spec =
