@@ -10,7 +10,7 @@ use native.Mathlib.Decide.{decLe}
 use lib.Dec.{leb}
 use borrow.Author.Tests.{le-leb, leb-true}
 use Rattle.lists.specs.Scan.{select, countBelow}
-use Rattle.lists.proofs.Scan.{countBelow-less, length-select, select-turn}
+use Rattle.lists.proofs.Scan.{countBelow-less, countBelow-turn, length-select, select-turn}
 use Rattle.model.specs.Inputs.{N, isFlipFlop, isOutput, isGate, kind, pinCount, pinLine, outputMark, F, O, flipFlops, outputLines}
 use Rattle.model.specs.Accepted.{ValidCircuit}
 use Rattle.circuit.specs.Table.{Listed, byteIsOne, pinRead, pinNumber}
@@ -69,6 +69,10 @@ flops-listed c table lines e h = rw (e, flops-bytes c .0) at h
 
 pub outputs-listed : (c table : List ℕ) (lines : ℕ) → lines ≡ N c → Listed (select (λ n. byteIsOne c 2 n) lines) table → Listed (outputLines c) table
 outputs-listed c table lines e h = rw (e, outputs-bytes c .0) at h
+
+-- one line more is counted
+pub counted-turn : (P : ℕ → Bool) (n i one : ℕ) (b : Bool) → i ≡ countBelow P n → one ≡ cond b 1 0 → b ≡ P n → i + one ≡ countBelow P (n + 1)
+counted-turn P n i one b e o h = rw (countBelow-turn, o, e, h)
 
 -- ---- what a valid circuit gives at one line
 pub is-gate : (c : List ℕ) (n k : ℕ) → k ≡ kind c n → 2 ≤ k → isGate c n ≡ true

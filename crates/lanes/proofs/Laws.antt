@@ -119,6 +119,7 @@ shows-stuck t z o v a b hit s l m h = record {
 -- ---- lists of words
 -- what stands at a place once another place, and once this place, was stored
 stored-other : (ws : List ℕ) (n m : ℕ) (x : Lanes) → (m ≡ n → ⊥) → lanesAt (stored ws n x) m ≡ lanesAt ws m
+unfolding stored lanesAt
 stored-other ws n m x ne =
     rw (
       getD-set-other (set ws (2 * n) (x .zeros)) (2 * n + 1) (2 * m) (x .ones) 0 (λ e. omega arith),
@@ -128,6 +129,7 @@ stored-other ws n m x ne =
     )
 
 stored-same : (ws : List ℕ) (n : ℕ) (x : Lanes) → Room (n + 1) ws → lanesAt (stored ws n x) n ≡ x
+unfolding stored lanesAt
 stored-same ws n x l =
     rw (
       getD-set-other (set ws (2 * n) (x .zeros)) (2 * n + 1) (2 * n) (x .ones) 0 (λ e. omega arith),
@@ -138,17 +140,18 @@ stored-same ws n x l =
 pub holds-as : (t : ℕ) (x y : Lanes) (v : ℕ) → x ≡ y → Holds t y v → Holds t x v
 holds-as t x y v e h = rw e h
 
-pub length-stored : (ws : List ℕ) (n : ℕ) (x : Lanes) → length (stored ws n x) ≡ length ws
-length-stored ws n x = simp length-set
+pub length-stored : (ws ws′ : List ℕ) (n : ℕ) (x : Lanes) → ws′ ≡ stored ws n x → length ws′ ≡ length ws
+unfolding stored
+length-stored ws ws′ n x e = ap length e ∙ simp length-set
 
 module _ (t : ℕ) (ws vs : List ℕ) where
   pub lane-at : (m : ℕ) → Lane t ws vs → m < length vs → At t ws m (getD vs m 2)
   unfolding Lane
   lane-at m h l = h m l
 
-  -- the lanes that were read at place m
-  pub lane-read : (r : Lanes) (m : ℕ) → r ≡ lanesAt ws m → Lane t ws vs → m < length vs → Holds t r (getD vs m 2)
-  lane-read r m e h l = holds-as t r _ _ e (lane-at m h l)
+  -- the lanes that were read at place m, which is place i
+  pub lane-read : (r : Lanes) (m i : ℕ) → r ≡ lanesAt ws m → m ≡ i → Lane t ws vs → i < length vs → Holds t r (getD vs i 2)
+  lane-read r m i e s h l = holds-as t r _ _ e (rw s (lane-at i h l))
 
   -- one place more
   pub lane-add : (n : ℕ) (x : Lanes) (v : ℕ) → length vs ≡ n → Room (n + 1) ws → Lane t ws vs → Holds t x v → Lane t (stored ws n x) (vs ++ (v ∷ []))
@@ -170,7 +173,7 @@ holds-turned t x v false h = h
 -- the two words of a place, read in either order
 pub turned-read : (ws : List ℕ) (x m : ℕ) (turned : Bool) → x ≡ 2 * m + cond turned 1 0
     → _≡_ {A = Lanes} record { zeros = getD ws x 0; ones = getD ws (bitXor x 1) 0 } (turnedIf turned (lanesAt ws m))
-unfolding turnedIf
+unfolding turnedIf lanesAt
 turned-read ws x m true e = rw (other-even x m e, e)
 turned-read ws x m false e = let f : x ≡ 2 * m = omega arith in rw (other-odd x m f, f)
 

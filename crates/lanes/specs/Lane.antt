@@ -35,7 +35,7 @@ pub record Conflict (t : ℕ) (x : Lanes) : Type 0 where
   pub one? : bit t (x .ones) ≡ true
 
 -- The lanes at place m of a list of words, two to a place. How words are laid out is said here, and in `stored` and `Room` below.
-abbrev pub lanesAt : List ℕ → ℕ → Lanes
+unfoldable pub lanesAt : List ℕ → ℕ → Lanes
 lanesAt words m = record { zeros = getD words (2 * m) 0; ones = getD words (2 * m + 1) 0 }
 
 -- lane t holds v at place m
@@ -43,7 +43,7 @@ abbrev pub At : ℕ → List ℕ → ℕ → ℕ → Type 0
 At t words m v = Holds t (lanesAt words m) v
 
 -- the list with x at place m
-abbrev pub stored : List ℕ → ℕ → Lanes → List ℕ
+unfoldable pub stored : List ℕ → ℕ → Lanes → List ℕ
 stored words m x = set (set words (2 * m) (x .zeros)) (2 * m + 1) (x .ones)
 
 -- the list has words for so many places

@@ -6,7 +6,7 @@ use Prim.Native.Nat.{ℕ, _+_, _*_, _/_, _<_, _≤_}
 use native.Mathlib.Omega.{arith}
 use native.Mathlib.Numerals.{add-one}
 use borrow.Author.Tests.{eq-eqb, ne-eqb}
-use lib.ListN.{length, getD, set, take, length-map, length-take}
+use lib.ListN.{length, getD, take, length-map, length-take}
 use lib.Seq.{take-length}
 use Rattle.lists.specs.Scan.{countBelow, tabulate}
 use Rattle.lists.proofs.Scan.{getD-any, map-take, countBelow-less}
@@ -15,14 +15,11 @@ use Rattle.model.specs.Accepted.{ValidCircuit}
 use Rattle.model.specs.Values.{X, evenGate, gate, invertIf, inverts}
 use Rattle.model.specs.Simulation.{isStuck, seen, pinSeen, pinsSeen, behind, valuesBelow, lineValues, nextState}
 use Rattle.model.proofs.Runs.{length-valuesBelow, length-flipFlops, flipFlopLine-holds}
-use Rattle.lanes.specs.Lane.{Shows, At, Lane}
-use Rattle.lanes.proofs.Laws.{lane-at, lane-add, lane-none}
+use Rattle.lanes.specs.declared.Lanes.{Lanes}
+use Rattle.lanes.specs.Lane.{Shows, Holds, At, stored, Room, Lane}
+use Rattle.lanes.proofs.Laws.{lane-add, lane-none}
 use Rattle.circuit.specs.Table.{Listed}
 use Rattle.unit.specs.Unit.{StuckAt, Stuck}
-
--- the value at place m, which is place i
-pub lane-read : (t : ℕ) (ws vs : List ℕ) (m i : ℕ) → Lane t ws vs → m ≡ i → i < length vs → At t ws m (getD vs i X)
-lane-read t ws vs m i l e h = rw e (lane-at t ws vs i l h)
 
 -- ---- what is seen
 -- the row that was read of a line
@@ -92,11 +89,11 @@ module _ (c : List ℕ) (f : Fault) (inputs st : List ℕ) where
   pub values-none : (t : ℕ) (ws : List ℕ) → Lane t ws (valuesBelow c f inputs st 0)
   values-none t ws = lane-none t ws _ (length-valuesBelow c f inputs st 0)
 
-  pub values-more : (t : ℕ) (ws ws′ : List ℕ) (n z o : ℕ) → ws′ ≡ set (set ws (2 * n) z) (2 * n + 1) o → 2 * n + 2 ≤ length ws
-      → Lane t ws (valuesBelow c f inputs st n) → Shows t z o (seen f n 0 (behind c f inputs st (valuesBelow c f inputs st n) n))
+  pub values-more : (t : ℕ) (ws ws′ : List ℕ) (n : ℕ) (x : Lanes) → ws′ ≡ stored ws n x → Room (n + 1) ws
+      → Lane t ws (valuesBelow c f inputs st n) → Holds t x (seen f n 0 (behind c f inputs st (valuesBelow c f inputs st n) n))
       → Lane t ws′ (valuesBelow c f inputs st (n + 1))
   unfolding valuesBelow
-  values-more t ws ws′ n z o e l h g = rw (e, add-one n) (lane-add t ws _ n z o _ (length-valuesBelow c f inputs st n) l h g)
+  values-more t ws ws′ n x e l h g = rw (e, add-one n) (lane-add t ws _ n x _ (length-valuesBelow c f inputs st n) l h g)
 
   pub values-all : (t : ℕ) (ws : List ℕ) (n : ℕ) → n ≡ N c → Lane t ws (valuesBelow c f inputs st n) → Lane t ws (lineValues c f inputs st)
   unfolding lineValues
@@ -115,12 +112,12 @@ module _ (c : List ℕ) (f : Fault) (vs : List ℕ) where
   pub next-none : (t : ℕ) (ws : List ℕ) → Lane t ws (nextOf 0)
   next-none t ws = lane-none t ws _ (length-nextOf 0 (omega arith))
 
-  pub next-more : (t : ℕ) (ws ws′ : List ℕ) (s z o : ℕ) → ws′ ≡ set (set ws (2 * s) z) (2 * s + 1) o → s < F c → 2 * s + 2 ≤ length ws → Lane t ws (nextOf s)
-      → Shows t z o (pinSeen c f vs (flipFlopLine c s) 1) → Lane t ws′ (nextOf (s + 1))
+  pub next-more : (t : ℕ) (ws ws′ : List ℕ) (s : ℕ) (x : Lanes) → ws′ ≡ stored ws s x → s < F c → Room (s + 1) ws → Lane t ws (nextOf s)
+      → Holds t x (pinSeen c f vs (flipFlopLine c s) 1) → Lane t ws′ (nextOf (s + 1))
   unfolding flipFlopLine
-  next-more t ws ws′ s z o w b l h g =
+  next-more t ws ws′ s x w b l h g =
       let e : nextOf (s + 1) ≡ nextOf s ++ (pinSeen c f vs (getD (flipFlops c) s 0) 1 ∷ []) = step in
-      rw (w, e) (lane-add t ws _ s z o _ (length-nextOf s (omega arith)) l h g)
+      rw (w, e) (lane-add t ws _ s x _ (length-nextOf s (omega arith)) l h g)
     where
       step : nextOf (s + 1) ≡ nextOf s ++ (pinSeen c f vs (getD (flipFlops c) s 0) 1 ∷ [])
       step = unfold nextOf in map-take (λ n. pinSeen c f vs n 1) (flipFlops c) s (omega (arith, length-flipFlops c))

@@ -7,9 +7,9 @@ ghost use lib.ListN.{length, getD};
 ghost use Rattle.lists.specs.Scan.{countBelow};
 ghost use Rattle.model.specs.Inputs.{N, kind, pinLine, isInput, isFlipFlop, I, F, flipFlops, Fault};
 ghost use Rattle.model.specs.Accepted.{ValidCircuit};
-ghost use Rattle.model.specs.Values.{gate, invertIf};
+ghost use Rattle.model.specs.Values.{gate};
 ghost use Rattle.model.specs.Simulation.{isStuck, seen, pinSeen, pinsSeen, behind, lineValues, nextState};
-ghost use Rattle.lanes.specs.Lane.{At, Holds, Lane, Room};
+ghost use Rattle.lanes.specs.Lane.{Holds, lanesAt, turnedIf, Lane, Room};
 ghost use Rattle.circuit.specs.Table.{Listed, PinTable};
 ghost use Rattle.unit.specs.Unit.{StuckAt, Stuck, MaskRoom};
 use lanes::Lanes;
@@ -38,7 +38,7 @@ fn pin_lanes(c: &[u8], masks: &[u64], words: &[u64], n: usize, p: usize, row: us
 // Gate n, of kind k, by its record: of any kind, with a fault at it or none.
 fn gate_lanes(c: &[u8], masks: &[u64], words: &[u64], n: usize, k: u8, row: usize) -> Lanes
     requires { ⌜ (ValidCircuit (now c)) × (n < N (now c)) × (k ≡ kind (now c) n) × (2 ≤ k) × (MaskRoom (now masks)) × (row < 256) × (Room n (now words)) ⌝ }
-    ensures { λ r. ⌜ ((t : ℕ) (f : Fault) (vs : List ℕ) → StuckAt t (now (masks .entry)) row f n → Lane t (now (words .entry)) vs → length vs ≡ n → Holds t r (gate k (pinsSeen (now (c .entry)) f vs n))) ⌝ }
+    ensures { λ r. ⌜ ((t : ℕ) (f : Fault) (vs : List ℕ) → StuckAt t (now (masks .entry)) row f n → Lane t (now (words .entry)) vs → n ≤ length vs → Holds t r (gate k (pinsSeen (now (c .entry)) f vs n))) ⌝ }
 {
     let pins = circuit::pins_of(c, n);
     let first = pin_lanes(c, masks, words, n, 1, row);
@@ -62,7 +62,7 @@ fn gate_lanes(c: &[u8], masks: &[u64], words: &[u64], n: usize, k: u8, row: usiz
 // The lanes of a pin, as the table of pins has it at place e.
 fn table_lanes(pins: &[u16], words: &[u64], e: usize) -> Lanes
     requires { ⌜ (e < length (now pins)) × (Room (getD (now pins) e 0 / 2 + 1) (now words)) ⌝ }
-    ensures { λ r. ⌜ ((t m v : ℕ) (turned : Bool) → getD (now (pins .entry)) e 0 ≡ 2 * m + cond turned 1 0 → At t (now (words .entry)) m v → Holds t r (invertIf turned v)) ⌝ }
+    ensures { λ r. ⌜ ((m : ℕ) (turned : Bool) → getD (now (pins .entry)) e 0 ≡ 2 * m + cond turned 1 0 → r ≡ turnedIf turned (lanesAt (now (words .entry)) m)) ⌝ }
 {
     lanes::read_turned(words, basics::wide16(pins[e]))
 }
@@ -71,7 +71,7 @@ fn table_lanes(pins: &[u16], words: &[u64], e: usize) -> Lanes
 // De Morgan, the inverse of the AND of its inverted pins.
 fn and_gate(c: &[u8], pins: &[u16], words: &[u64], n: usize, k: u8) -> Lanes
     requires { ⌜ (ValidCircuit (now c)) × (n < N (now c)) × (k ≡ kind (now c) n) × (2 ≤ k) × (k ≤ 7) × (PinTable (now c) (now pins)) × (Room n (now words)) ⌝ }
-    ensures { λ r. ⌜ ((t : ℕ) (f : Fault) (vs : List ℕ) → ((pin : ℕ) → isStuck f n pin ≡ false) → Lane t (now (words .entry)) vs → length vs ≡ n
+    ensures { λ r. ⌜ ((t : ℕ) (f : Fault) (vs : List ℕ) → ((pin : ℕ) → isStuck f n pin ≡ false) → Lane t (now (words .entry)) vs → n ≤ length vs
         → Holds t r (gate k (pinsSeen (now (c .entry)) f vs n))) ⌝ }
 {
     let e = 4 * n;
@@ -86,8 +86,8 @@ fn and_gate(c: &[u8], pins: &[u16], words: &[u64], n: usize, k: u8) -> Lanes
     }
 }
 
-// Gate n, of kind k. Most gates have no fault at them and are no XOR.
-fn any_gate(
+// Gate n, of kind k, from the values of lines among which are all lower ones. Most gates have no fault at them and are no XOR.
+pub fn any_gate(
     c: &[u8],
     pins: &[u16],
     masks: &[u64],
@@ -97,7 +97,7 @@ fn any_gate(
     row: usize,
 ) -> Lanes
     requires { ⌜ (ValidCircuit (now c)) × (n < N (now c)) × (k ≡ kind (now c) n) × (2 ≤ k) × (PinTable (now c) (now pins)) × (MaskRoom (now masks)) × (row < 256) × (Room n (now words)) ⌝ }
-    ensures { λ r. ⌜ ((t : ℕ) (f : Fault) (vs : List ℕ) → StuckAt t (now (masks .entry)) row f n → Lane t (now (words .entry)) vs → length vs ≡ n → Holds t r (gate k (pinsSeen (now (c .entry)) f vs n))) ⌝ }
+    ensures { λ r. ⌜ ((t : ℕ) (f : Fault) (vs : List ℕ) → StuckAt t (now (masks .entry)) row f n → Lane t (now (words .entry)) vs → n ≤ length vs → Holds t r (gate k (pinsSeen (now (c .entry)) f vs n))) ⌝ }
 {
     if row == 0 {
         if k <= 7 {
@@ -153,7 +153,7 @@ pub fn simulate_unit(
     let mut s: usize = 0;
     let mut n: usize = 0;
     while n < lines {
-        let k = circuit::kind_of(c, n);
+        let k = circuit::field(c, n, circuit::KIND);
         let row = basics::wide(hits[n]);
         let x = behind_lanes(c, pins, inputs, state, masks, words, n, k, row, i, s);
         lanes::store(words, n, seen_at(masks, row, 0, x));

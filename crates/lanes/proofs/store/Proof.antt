@@ -1,5 +1,6 @@
 use native.Mathlib.Omega.{arith}
 use lib.ListN.{length-set}
+use Rattle.lanes.specs.Lane.{stored}
 use borrow.Author.Needs.{needs}
 use Rattle.lanes.proofs.store.Statement.{statement}
 use Rattle.lanes.proofs.store.Tie as tie
@@ -31,6 +32,7 @@ same-length : tie.Need-same-length
 same-length c = search needs
 
 returns : tie.Need-returns
+unfolding stored
 returns c = search needs
 
 pub store-spec : {M : Type 1} → statement M

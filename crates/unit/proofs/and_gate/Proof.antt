@@ -6,10 +6,11 @@ use native.Mathlib.Omega.{arith}
 use borrow.Author.Tests.{eq-eqb, ne-eqb}
 use lib.ListN.{getD, length}
 use Rattle.model.specs.Inputs.{kind, pinCount, pinLine, isGate, Fault}
-use Rattle.model.specs.Values.{invert, invertIf}
+use Rattle.model.specs.Values.{invert, andPair, invertIf}
 use Rattle.model.specs.Simulation.{isStuck, seen, pinSeen, pinsSeen}
-use Rattle.lanes.specs.Lane.{At, Lane}
-use Rattle.lanes.proofs.Laws.{lane-at}
+use Rattle.lanes.specs.declared.Lanes.{Lanes}
+use Rattle.lanes.specs.Lane.{Holds, lanesAt, turnedIf, Lane}
+use Rattle.lanes.proofs.Laws.{holds-as, lane-at, holds-turned}
 use Rattle.circuit.specs.Table.{pinRead, isOr, pinNumber}
 use Rattle.circuit.proofs.Laws.{is-gate, pin-read-lower}
 use Rattle.unit.proofs.Laws.{shows-gate}
@@ -17,11 +18,6 @@ use Rattle.unit.proofs.Plain.{shows-four, shows-low, invert-pins, shows
 use borrow.Author.Needs.{needs}
 use Rattle.unit.proofs.and_gate.Statement.{statement}
 use Rattle.unit.proofs.and_gate.Tie as tie
-use Rattle.unit.proofs.and_gate.Reads as reads
-use Rattle.unit.proofs.and_gate.Lts as lts
-use Rattle.lanes.proofs.Lanes.and.Reads as and-reads
-use Rattle.lanes.proofs.Lanes.finish.Reads as finish-reads
-use Rattle.unit.proofs.table_lanes.Reads as table-lanes-reads
 
 gate : (c : tie.Start) → isGate (c .args .c .now) (c .args .n) ≡ true
 gate c = is-gate _ _ _ (c .pre .2) (c .pre .3)
@@ -51,37 +47,73 @@ low c e i at h = rw (numbered c _ refl e i at h) (half _ (isOr (c .args .c .now)
     half q true l = omega arith
     half q false l = omega arith
 
--- with no fault at the gate, what the pin that is read sees
-read : (c : tie.Start) (t : ℕ) (f : Fault) (vs : List ℕ) → ((pin : ℕ) → isStuck f (c .args .n) pin ≡ false) → Lane t (c .args .words .now) vs → length vs ≡ c .args .n
-    → (p : ℕ) → 1 ≤ p → At t (c .args .words .now) (pinLine (c .args .c .now) (c .args .n) (pinRead (pinCount (c .args .c .now) (c .args .n)) p))
-    (pinSeen (c .args .c .now) f vs (c .args .n) (pinRead (pinCount (c .args .c .now) (c .args .n)) p))
+-- with no fault at the gate, what was read for pin p is what the pin that it stands for sees
+read : (c : tie.Start) (t : ℕ) (f : Fault) (vs : List ℕ) (turned : Bool) → ((pin : ℕ) → isStuck f (c .args .n) pin ≡ false) → Lane t (c .args .words .now) vs → c .args .n ≤ length vs
+    → (p : ℕ) (x : Lanes) → 1 ≤ p → x ≡ turnedIf turned (lanesAt (c .args .words .now) (pinLine (c .args .c .now) (c .args .n) (pinRead (pinCount (c .args .c .now) (c .args .n)) p)))
+    → Holds t x (invertIf turned (pinSeen (c .args .c .now) f vs (c .args .n) (pinRead (pinCount (c .args .c .now) (c .args .n)) p)))
 unfolding pinSeen seen
-read c t f vs free l e p h =
-    rw (free (pinRead (pinCount (c .args .c .now) (c .args .n)) p)) (lane-at t _ vs _ l (omega (arith, e, pin-read-lower _ (c .pre .0) _ p (c .pre .1) (gate c) h)))
+read c t f vs turned free l e p x h is =
+    holds-as t x _ _ is
+    (holds-turned t _ _ turned
+    (rw (free (pinRead (pinCount (c .args .c .now) (c .args .n)) p)) (lane-at t _ vs _ l (omega (arith, e, pin-read-lower _ (c .pre .0) _ p (c .pre .1) (gate c) h)))))
+
+-- places
+abbrev start : tie.After-table-lanes → tie.Start
+start c = c .before .before .before .before
+
+abbrev third : tie.After-table-lanes3 → tie.After-table-lanes
+third c = c .before .before
+
+abbrev fourth : tie.After-and3 → tie.After-table-lanes4
+fourth c = c .before .before .before
+
+-- the AND of the four pins that are read, inverted for OR
+all : (c : tie.After-and3) → let s = start (third (fourth c .before)) in
+    (t : ℕ) (f : Fault) (vs : List ℕ) (turned : Bool) → isOr (s .args .c .now) (s .args .n) ≡ turned → ((pin : ℕ) → isStuck f (s .args .n) pin ≡ false)
+    → Lane t (s .args .words .now) vs → s .args .n ≤ length vs
+    → let w : ℕ → ℕ = λ p. invertIf turned (pinSeen (s .args .c .now) f vs (s .args .n) (pinRead (pinCount (s .args .c .now) (s .args .n)) p)) in
+    Holds t (c .and3 .result) (andPair (andPair (w 1) (w 2)) (andPair (w 3) (w 4)))
+all c t f vs turned or free l e =
+    let p4 = fourth c in
+    let p1 = third (p4 .before) in
+    let s = start p1 in
+    let number = numbered s turned or in
+    let pin = read s t f vs turned free l e in
+    c .and3 .ensures t _ _
+    (c .before .before .and .ensures t _ _
+    (pin 1 _ (omega arith) (p1 .table-lanes .ensures _ turned (number (4 * s .args .n) 0 (omega arith) (omega arith))))
+    (pin 2 _ (omega arith) (p4 .before .before .table-lanes2 .ensures _ turned (number _ 1 refl (omega arith)))))
+    (c .before .and2 .ensures t _ _
+    (pin 3 _ (omega arith) (p4 .before .table-lanes3 .ensures _ turned (number _ 2 refl (omega arith))))
+    (pin 4 _ (omega arith) (p4 .table-lanes4 .ensures _ turned (number _ 3 refl (omega arith)))))
+
+-- what reading pin i + 1 asks for
+asked : (s : tie.Start) (e i : ℕ) → e ≡ 4 * s .args .n + i → i < 4 → (e < length (s .args .pins .now)) × (2 * (getD (s .args .pins .now) e 0 / 2 + 1) ≤ length (s .args .words .now))
+asked s e i at h = (omega (arith, s .pre .5 .room, s .pre .1), omega (arith, s .pre .6, low s e i at h))
 
 mul-e : tie.Need-mul-e
 mul-e c = search needs
 
 table-lanes-requires : tie.Need-table-lanes-requires
-table-lanes-requires c κs = let start = c .before .before .before in (omega (arith, start .pre .5 .room, start .pre .1), omega (arith, start .pre .6, low start (4 * start .args .n) 0 (omega arith) (omega arith)))
+table-lanes-requires c κs = asked (c .before .before .before) _ 0 (omega arith) (omega arith)
 
 add-table-lanes : tie.Need-add-table-lanes
 add-table-lanes c = search needs
 
 table-lanes-requires-2 : tie.Need-table-lanes-requires-2
-table-lanes-requires-2 c κs = let start = c .before .before .before .before in (omega (arith, start .pre .5 .room, start .pre .1), omega (arith, start .pre .6, low start (4 * start .args .n + 1) 1 (omega arith) (omega arith)))
+table-lanes-requires-2 c κs = asked (start c) _ 1 refl (omega arith)
 
 add-table-lanes-2 : tie.Need-add-table-lanes-2
 add-table-lanes-2 c = search needs
 
 table-lanes-requires-3 : tie.Need-table-lanes-requires-3
-table-lanes-requires-3 c κs = let start = c .before .before .before .before .before in (omega (arith, start .pre .5 .room, start .pre .1), omega (arith, start .pre .6, low start (4 * start .args .n + 2) 2 (omega arith) (omega arith)))
+table-lanes-requires-3 c κs = asked (start (c .before)) _ 2 refl (omega arith)
 
 add-table-lanes-3 : tie.Need-add-table-lanes-3
 add-table-lanes-3 c = search needs
 
 table-lanes-requires-4 : tie.Need-table-lanes-requires-4
-table-lanes-requires-4 c κs = let start = c .before .before .before .before .before .before in (omega (arith, start .pre .5 .room, start .pre .1), omega (arith, start .pre .6, low start (4 * start .args .n + 3) 3 (omega arith) (omega arith)))
+table-lanes-requires-4 c κs = asked (start (third c)) _ 3 refl (omega arith)
 
 and-requires : tie.Need-and-requires
 and-requires c κs = search needs
@@ -96,7 +128,7 @@ finish-requires : tie.Need-finish-requires
 finish-requires c κs = search needs
 
 add-finish : tie.Need-add-finish
-add-finish c = omega (arith, c .before .before .before .before .before .before .before .before .before .before .before .pre .4)
+add-finish c = omega (arith, start (third (fourth (c .before) .before)) .pre .4)
 
 finish-requires-2 : tie.Need-finish-requires-2
 finish-requires-2 c κs = search needs
@@ -104,39 +136,27 @@ finish-requires-2 c κs = search needs
 returns : tie.Need-returns
 unfolding invertIf pinsSeen
 returns c = λ t f vs free l e.
-    let start = c .before .before .before .before .before .before .before .before .before .before .before .before in
-    let pin = read start t f vs free l e in
-    let number = numbered start false (is-no-or start (omega (arith, c .before .if1 .taken))) in
-    let first = c .before .before .before .before .before .before .before .before .table-lanes .ensures t _ _ false (number (4 * start .args .n) 0 (omega arith) (omega arith)) (pin 1 (omega arith)) in
-    let second = c .before .before .before .before .before .before .before .table-lanes2 .ensures t _ _ false (number (4 * start .args .n + 1) 1 (omega arith) (omega arith)) (pin 2 (omega arith)) in
-    let third = c .before .before .before .before .before .before .table-lanes3 .ensures t _ _ false (number (4 * start .args .n + 2) 2 (omega arith) (omega arith)) (pin 3 (omega arith)) in
-    let fourth = c .before .before .before .before .before .table-lanes4 .ensures t _ _ false (number (4 * start .args .n + 3) 3 (omega arith) (omega arith)) (pin 4 (omega arith)) in
-    let all = c .before .before .and3 .ensures t _ _ (c .before .before .before .before .and .ensures t _ _ first second) (c .before .before .before .and2 .ensures t _ _ third fourth) in
-    let some = start .pre .0 .pinned _ (start .pre .1) (gate start) in
-    let few = start .pre .0 .few _ (start .pre .1) in
+    let s = start (third (fourth (c .before .before) .before)) in
+    let some = s .pre .0 .pinned _ (s .pre .1) (gate s) in
+    let few = s .pre .0 .few _ (s .pre .1) in
+    let low = c .before .if1 .taken in
     shows-gate t _ _ _ _ _ refl
     (c .finish .ensures t _
-    (shows-low t _ _ _ _ (pinSeen (start .args .c .now) f vs (start .args .n)) (start .pre .3) (omega (arith, c .before .if1 .taken))
-    (λ k. omega (arith, some, start .pre .0 .single _ (start .pre .1) (omega (arith, start .pre .2, k))))
-    (shows-four t _ _ (pinSeen (start .args .c .now) f vs (start .args .n)) _ some few all)))
+    (shows-low t _ _ _ _ (pinSeen (s .args .c .now) f vs (s .args .n)) (s .pre .3) (omega (arith, low))
+    (λ k. omega (arith, some, s .pre .0 .single _ (s .pre .1) (omega (arith, s .pre .2, k))))
+    (shows-four t _ _ (pinSeen (s .args .c .now) f vs (s .args .n)) _ some few (all (c .before .before) t f vs false (is-no-or s (omega (arith, low))) free l e))))
 
 returns-2 : tie.Need-returns-2
 unfolding invertIf pinsSeen
 returns-2 c = λ t f vs free l e.
-    let start = c .before .before .before .before .before .before .before .before .before .before .before .before in
-    let pin = read start t f vs free l e in
-    let number = numbered start true (is-or start (omega (arith, c .before .if1 .left))) in
-    let first = c .before .before .before .before .before .before .before .before .table-lanes .ensures t _ _ true (number (4 * start .args .n) 0 (omega arith) (omega arith)) (pin 1 (omega arith)) in
-    let second = c .before .before .before .before .before .before .before .table-lanes2 .ensures t _ _ true (number (4 * start .args .n + 1) 1 (omega arith) (omega arith)) (pin 2 (omega arith)) in
-    let third = c .before .before .before .before .before .before .table-lanes3 .ensures t _ _ true (number (4 * start .args .n + 2) 2 (omega arith) (omega arith)) (pin 3 (omega arith)) in
-    let fourth = c .before .before .before .before .before .table-lanes4 .ensures t _ _ true (number (4 * start .args .n + 3) 3 (omega arith) (omega arith)) (pin 4 (omega arith)) in
-    let all = c .before .before .and3 .ensures t _ _ (c .before .before .before .before .and .ensures t _ _ first second) (c .before .before .before .and2 .ensures t _ _ third fourth) in
-    let some = start .pre .0 .pinned _ (start .pre .1) (gate start) in
-    let few = start .pre .0 .few _ (start .pre .1) in
-    let pins = shows-four t _ _ (λ p. invert (pinSeen (start .args .c .now) f vs (start .args .n) p)) _ some few all in
+    let s = start (third (fourth (c .before .before) .before)) in
+    let some = s .pre .0 .pinned _ (s .pre .1) (gate s) in
+    let few = s .pre .0 .few _ (s .pre .1) in
+    let high = c .before .if1 .left in
+    let pins = shows-four t _ _ (λ p. invert (pinSeen (s .args .c .now) f vs (s .args .n) p)) _ some few (all (c .before .before) t f vs true (is-or s (omega (arith, high))) free l e) in
     shows-gate t _ _ _ _ _ refl
-    (shows-or-gate t _ _ _ _ (omega (arith, c .before .if1 .left)) (start .pre .4)
-    (c .finish2 .ensures t _ (rw (invert-pins (pinSeen (start .args .c .now) f vs (start .args .n)) 1 (pinCount (start .args .c .now) (start .args .n))) at pins)))
+    (shows-or-gate t _ _ _ _ (omega (arith, high)) (s .pre .4)
+    (c .finish2 .ensures t _ (rw (invert-pins (pinSeen (s .args .c .now) f vs (s .args .n)) 1 (pinCount (s .args .c .now) (s .args .n))) at pins)))
 
 pub and-gate-spec : {M : Type 1} → statement M
 and-gate-spec =

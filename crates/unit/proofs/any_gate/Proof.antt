@@ -1,10 +1,6 @@
 use borrow.Author.Needs.{needs}
 use Rattle.unit.proofs.any_gate.Statement.{statement}
 use Rattle.unit.proofs.any_gate.Tie as tie
-use Rattle.unit.proofs.any_gate.Reads as reads
-use Rattle.unit.proofs.any_gate.Lts as lts
-use Rattle.unit.proofs.and_gate.Reads as and-gate-reads
-use Rattle.unit.proofs.gate_lanes.Reads as gate-lanes-reads
 
 and-gate-requires : tie.Need-and-gate-requires
 and-gate-requires c κs = search needs

@@ -1,44 +1,53 @@
-use mathlib.Core.Path.{refl, sym, _∙_}
+use mathlib.Core.Path.{_≡_, refl, sym, _∙_}
+use Prim.Native.Nat.{ℕ, _<_}
 use native.Mathlib.Omega.{arith}
-use Rattle.unit.proofs.Laws.{lane-read, behind-input, behind-state, behind-gate, input-place, state-place}
+use lib.ListN.{length}
+use Rattle.model.specs.Inputs.{F}
+use Rattle.lanes.proofs.Laws.{lane-read}
+use Rattle.unit.proofs.Laws.{behind-input, behind-state, behind-gate, input-place, state-place}
 use borrow.Author.Needs.{needs}
 use Rattle.unit.proofs.behind_lanes.Statement.{statement}
 use Rattle.unit.proofs.behind_lanes.Tie as tie
-use Rattle.unit.proofs.behind_lanes.Reads as reads
-use Rattle.unit.proofs.behind_lanes.Lts as lts
-use Rattle.lanes.proofs.Lanes.all.Reads as all-reads
-use Rattle.lanes.proofs.read.Reads as read-reads
-use Rattle.unit.proofs.any_gate.Reads as any-gate-reads
+
+-- places
+abbrev start : tie.After-shared-slice-known6 → tie.Start
+start c = c .before .before .before .before .before .before
+
+-- an input, and a flip-flop, has its place
+input : (c : tie.At-match-keys1) → start (c .before) .args .i < length (start (c .before) .args .inputs .now)
+input c =
+    let pre = start (c .before) .pre in
+    omega (arith, pre .7, pre .9, input-place _ _ (pre .1) (sym (pre .2) ∙ c .match .keys1))
+
+bit : (c : tie.At-match-keys2) → start (c .before) .args .s < F (start (c .before) .args .c .now)
+bit c = let pre = start (c .before) .pre in omega (arith, pre .8, state-place _ _ (pre .1) (sym (pre .2) ∙ c .match .keys2))
 
 shared-slice-read-all : tie.Need-shared-slice-read-all
-shared-slice-read-all c = omega (arith, c .before .before .before .before .before .before .before .before .pre .7, c .before .before .before .before .before .before .before .before .pre .9, input-place _ _ (c .before .before .before .before .before .before .before .before .pre .1) (sym (c .before .before .before .before .before .before .before .before .pre .2) ∙ c .before .match .keys1))
+shared-slice-read-all c = input (c .before)
 
 all-requires : tie.Need-all-requires
 all-requires c κs = search needs
 
 read-requires : tie.Need-read-requires
-read-requires c κs = omega (arith, c .before .before .before .before .before .before .before .pre .8, c .before .before .before .before .before .before .before .pre .10, state-place _ _ (c .before .before .before .before .before .before .before .pre .1) (sym (c .before .before .before .before .before .before .before .pre .2) ∙ c .match .keys2))
+read-requires c κs = omega (arith, start (c .before) .pre .10, bit c)
 
 any-gate-requires : tie.Need-any-gate-requires
 any-gate-requires c κs = search needs
 
 returns : tie.Need-returns
-returns c =
-    let start = c .before .before .before .before .before .before .before .before .before in
-    let e = sym (start .pre .2) ∙ c .before .before .match .keys1 in
-    λ t f st vs l s ls es h eh. behind-input t _ _ _ f _ st vs _ _ e (start .pre .7) (omega (arith, start .pre .7, start .pre .9, input-place _ _ (start .pre .1) e)) (c .all .ensures t l)
+returns c = λ t f st vs l s ls es h eh.
+    let case = c .before .before in
+    let pre = start (case .before) .pre in
+    behind-input t _ _ _ f _ st vs _ _ (sym (pre .2) ∙ case .match .keys1) (pre .7) (input case) (c .all .ensures t l)
 
 returns-2 : tie.Need-returns-2
-returns-2 c =
-    let start = c .before .before .before .before .before .before .before .before in
-    let e = sym (start .pre .2) ∙ c .before .match .keys2 in
-    λ t f st vs l s ls es h eh.
-    behind-state t _ _ _ f _ st vs _ _ e (start .pre .8)
-    (c .read .ensures t _ (lane-read t _ st _ _ ls refl (omega (arith, es, start .pre .8, state-place _ _ (start .pre .1) e))))
+returns-2 c = λ t f st vs l s ls es h eh.
+    let case = c .before in
+    let pre = start (case .before) .pre in
+    behind-state t _ _ _ f _ st vs _ _ (sym (pre .2) ∙ case .match .keys2) (pre .8) (lane-read t _ st _ _ _ (c .read .ensures) refl ls (omega (arith, es, bit case)))
 
 returns-3 : tie.Need-returns-3
-returns-3 c =
-    λ t f st vs l s ls es h eh. behind-gate t _ _ _ f _ st vs _ _ (c .before .before .before .before .before .before .before .before .pre .2) (omega arith) (c .any-gate .ensures t f vs s h eh)
+returns-3 c = λ t f st vs l s ls es h eh. behind-gate t _ _ _ f _ st vs _ _ (start (c .before .before) .pre .2) (omega arith) (c .any-gate .ensures t f vs s h (omega arith))
 
 pub behind-lanes-spec : {M : Type 1} → statement M
 behind-lanes-spec =

@@ -1,13 +1,8 @@
 use Rattle.model.specs.Simulation.{pinSeen}
-use Rattle.unit.proofs.Laws.{lane-read}
+use Rattle.lanes.proofs.Laws.{lane-read}
 use borrow.Author.Needs.{needs}
 use Rattle.unit.proofs.pin_lanes.Statement.{statement}
 use Rattle.unit.proofs.pin_lanes.Tie as tie
-use Rattle.unit.proofs.pin_lanes.Reads as reads
-use Rattle.unit.proofs.pin_lanes.Lts as lts
-use Rattle.circuit.proofs.pin_of.Reads as pin-of-reads
-use Rattle.lanes.proofs.read.Reads as read-reads
-use Rattle.unit.proofs.seen_at.Reads as seen-at-reads
 
 pin-of-requires : tie.Need-pin-of-requires
 pin-of-requires c κs = search needs
@@ -21,7 +16,7 @@ seen-at-requires c κs = search needs
 returns : tie.Need-returns
 unfolding pinSeen
 returns c = λ t f vs s l h.
-    c .seen-at .ensures t f _ _ s (c .before .read .ensures t _ (lane-read t _ vs _ _ l (c .before .before .pin-of .ensures .0) h))
+    c .seen-at .ensures t f _ _ s (lane-read t _ vs _ _ _ (c .before .read .ensures) (c .before .before .pin-of .ensures .0) l h)
 
 pub pin-lanes-spec : {M : Type 1} → statement M
 pin-lanes-spec = tie.close (tie.spec pin-of-requires read-requires seen-at-requires returns)

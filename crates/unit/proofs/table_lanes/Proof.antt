@@ -2,10 +2,6 @@ use mathlib.Core.Path.{_∙_}
 use borrow.Author.Needs.{needs}
 use Rattle.unit.proofs.table_lanes.Statement.{statement}
 use Rattle.unit.proofs.table_lanes.Tie as tie
-use Rattle.unit.proofs.table_lanes.Reads as reads
-use Rattle.unit.proofs.table_lanes.Lts as lts
-use Rattle.basics.proofs.wide16.Reads as wide16-reads
-use Rattle.lanes.proofs.read_turned.Reads as read-turned-reads
 
 mul-wide16 : tie.Need-mul-wide16
 mul-wide16 c = search needs
@@ -20,7 +16,7 @@ read-turned-requires : tie.Need-read-turned-requires
 read-turned-requires c κs = search needs
 
 returns : tie.Need-returns
-returns c = λ t m v turned e h. c .read-turned .ensures t m v turned (c .before .wide16 .ensures ∙ e) h
+returns c = λ m turned e. c .read-turned .ensures m turned (c .before .wide16 .ensures ∙ e)
 
 pub table-lanes-spec : {M : Type 1} → statement M
 table-lanes-spec =
