@@ -118,7 +118,7 @@ shows-stuck t z o v a b hit s l m h = record {
 
 -- ---- lists of words
 -- what stands at a place once another place, and once this place, was stored
-stored-other : (ws : List ℕ) (n m : ℕ) (x : Lanes) → (m ≡ n → ⊥) → lanesAt (stored ws n x) m ≡ lanesAt ws m
+pub stored-other : (ws : List ℕ) (n m : ℕ) (x : Lanes) → (m ≡ n → ⊥) → lanesAt (stored ws n x) m ≡ lanesAt ws m
 unfolding stored lanesAt
 stored-other ws n m x ne =
     rw (
@@ -128,7 +128,7 @@ stored-other ws n m x ne =
       getD-set-other ws (2 * n) (2 * m + 1) (x .zeros) 0 (λ e. omega arith),
     )
 
-stored-same : (ws : List ℕ) (n : ℕ) (x : Lanes) → Room (n + 1) ws → lanesAt (stored ws n x) n ≡ x
+pub stored-same : (ws : List ℕ) (n : ℕ) (x : Lanes) → Room (n + 1) ws → lanesAt (stored ws n x) n ≡ x
 unfolding stored lanesAt
 stored-same ws n x l =
     rw (

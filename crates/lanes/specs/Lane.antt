@@ -29,6 +29,10 @@ pub record Shows (t z o v : ℕ) : Type 0 where
 abbrev pub Holds : ℕ → Lanes → ℕ → Type 0
 Holds t x v = Shows t (x .zeros) (x .ones) v
 
+-- X in all lanes
+abbrev pub allX : Lanes
+allX = record { zeros = 0; ones = 0 }
+
 -- lane t of x holds a conflict: it is known to be 0 and known to be 1
 pub record Conflict (t : ℕ) (x : Lanes) : Type 0 where
   pub zero? : bit t (x .zeros) ≡ true
