@@ -1,9 +1,9 @@
 -- 16-bit fields read back, fields of a part of an area, and an area written from its beginning on.
 use mathlib.Core.Path.{_≡_, refl, sym, ap, _∙_}
-use Prim.Native.Nat.{ℕ, _+_, _-_, _*_, _/_, _%_, _<_}
+use Prim.Native.Nat.{ℕ, _+_, _*_, _-_, _/_, _%_, _<_, _≤_}
 use mathlib.Core.List.{List, [], _∷_, _++_, append-nil, append-assoc}
-use lib.ListN.{getD, length, set, take, drop, length-append, length-drop}
-use lib.Seq.{getD-take, getD-drop, take-suc, take-length, length-take-le}
+use lib.ListN.{getD, length, set, take, drop, length-append, length-drop, drop-of-length-le}
+use lib.Seq.{getD-take, getD-drop, take-suc, take-length, take-all, length-take-le, take-at, drop-at, drop-drop}
 use native.Mathlib.Numerals.{add-one}
 use native.Mathlib.Omega.{arith}
 use Rattle.lists.specs.Field.{word16, overwritten}
@@ -34,23 +34,30 @@ overwritten-more done [] v h = absurd (let z : ⊥ = omega arith in z)
 overwritten-more [] (x ∷ old) v h = refl
 overwritten-more (a ∷ done) (x ∷ old) v h = ap (_∷_ a) (overwritten-more done old v (omega arith))
 
--- a row written byte by byte, behind what is written already
-module _ (done row old : List ℕ) where
-  pub row-none : (area : List ℕ) → area ≡ overwritten done old → area ≡ overwritten (done ++ take 0 row) old
-  row-none area e = rw append-nil e
-
-  pub row-more : (area area′ : List ℕ) (place o v d : ℕ) → area′ ≡ set area (place + o) v → v ≡ getD row o d → length done ≡ place → o < length row → place + o < length area
-      → area ≡ overwritten (done ++ take o row) old → area′ ≡ overwritten (done ++ take (o + 1) row) old
-  row-more area area′ place o v d e w p h room a =
-      let now = done ++ take o row in
-      let long : length now ≡ place + o = length-append done (take o row) ∙ (let k : length (take o row) ≡ o = length-take-le o row (omega arith) in omega arith) in
-      let put : set (overwritten now old) (length now) v ≡ overwritten (now ++ (v ∷ [])) old = overwritten-more now old v (beyond now (rw (← a, long) room)) in
+-- a row written byte by byte
+module _ (row old : List ℕ) where
+  pub row-more : (area area′ : List ℕ) (o v d : ℕ) → area′ ≡ set area o v → v ≡ getD row o d → o < length row → o < length old
+      → area ≡ overwritten (take o row) old → area′ ≡ overwritten (take (o + 1) row) old
+  row-more area area′ o v d e w h room a =
+      let long : length (take o row) ≡ o = length-take-le o row (omega arith) in
       let more : take (o + 1) row ≡ take o row ++ (v ∷ []) = rw (add-one o, w) (take-suc row o d h) in
-      e ∙ ap (λ x. set x (place + o) v) a ∙ ap (λ x. set (overwritten now old) x v) (sym long) ∙ put
-      ∙ ap (λ x. overwritten x old) (append-assoc done (take o row) (v ∷ []) ∙ ap (λ x. done ++ x) (sym more))
-    where
-      beyond : (now : List ℕ) → length now < length (overwritten now old) → length now < length old
-      beyond now k = unfold overwritten in (let z : length now < length now + (length old - length now) = rw (length-append, length-drop) at k in omega arith)
+      e ∙ ap (λ x. set x o v) a ∙ ap (λ x. set (overwritten (take o row) old) x v) (sym long) ∙ overwritten-more (take o row) old v (rw long room) ∙ ap (λ x. overwritten x old) (sym more)
 
-  pub row-all : (area : List ℕ) (o : ℕ) → o ≡ length row → area ≡ overwritten (done ++ take o row) old → area ≡ overwritten (done ++ row) old
+  pub row-all : (area : List ℕ) (o : ℕ) → o ≡ length row → area ≡ overwritten (take o row) old → area ≡ overwritten row old
   row-all area o e a = let all : take o row ≡ row = rw e (take-length row) in rw (← all) a
+
+-- ---- an area whose end, from `place` on, is lent
+-- what is lent
+pub lent : (area : List ℕ) (place : ℕ) → take (length area - place) (drop place area) ≡ drop place area
+lent area place = take-all (length area - place) (drop place area) (rw length-drop (omega arith))
+
+pub length-lent : (area : List ℕ) (place : ℕ) → length (take (length area - place) (drop place area)) ≡ length area - place
+length-lent area place = ap length (lent area place) ∙ length-drop place area
+
+-- `new` is written there, behind what is written already
+pub written-behind : (done new old area end : List ℕ) (place : ℕ) → area ≡ overwritten done old → length done ≡ place → end ≡ overwritten new (take (length area - place) (drop place area))
+    → take place area ++ (end ++ drop (length area - place) (drop place area)) ≡ overwritten (done ++ new) old
+unfolding overwritten
+written-behind done new old area end place a p e =
+    rw (drop-of-length-le (drop place area) {i = length area - place} (rw length-drop (omega arith)), append-nil end, e, lent area place, a)
+    (rw (take-at done _ place p, drop-at done _ place p, drop-drop, append-assoc done new, length-append, p))

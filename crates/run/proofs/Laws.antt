@@ -4,7 +4,7 @@ use Prim.Native.Nat.{ℕ, zero, suc, _+_, _-_, _*_, _<_, _≤_}
 use mathlib.Core.Bool.{Bool, true, false, _&&_, _||_, and-comm, or-false, or-assoc}
 use mathlib.Core.List.{List, [], _∷_, _++_, append-assoc}
 use lib.Bits.{bitAnd, bitOr}
-use lib.ListN.{getD, length, set, take, drop, length-append, length-drop, length-map, getD-replicate, length-replicate, List·getD-map}
+use lib.ListN.{getD, length, take, drop, length-append, length-drop, length-map, getD-replicate, length-replicate, List·getD-map}
 use lib.Seq.{take-length, take-suc, length-take-le}
 use native.Mathlib.Numerals.{add-one}
 use native.Mathlib.Omega.{arith}
@@ -18,9 +18,10 @@ use Rattle.model.specs.Values.{X, opposes, someOppose}
 use Rattle.model.specs.Simulation.{shown, powerUp, lineValues, outputs, nextState, stateAt, valuesAt, outputsAt}
 use Rattle.model.proofs.Runs.{length-nextState}
 use Rattle.model.proofs.ThreeValued.{inputs-three, lineValues-three, stateAt-three}
-use Rattle.lanes.specs.Lane.{bit, Lane}
+use Rattle.lanes.specs.declared.Lanes.{Lanes}
+use Rattle.lanes.specs.Lane.{bit, Holds, allX, lanesAt, stored, Room, Lane}
 use Rattle.lanes.proofs.Bits.{bit-and, bit-or, bit-none}
-use Rattle.lanes.proofs.Laws.{lane-add, lane-none, shows-x}
+use Rattle.lanes.proofs.Laws.{lane-read, lane-add, lane-none, shows-x}
 use Rattle.circuit.specs.Table.{Listed}
 use Rattle.job.specs.Job.{JobOf}
 use Rattle.job.specs.declared.Job.{Job}
@@ -102,6 +103,15 @@ module _ (c : List ℕ) (f : Fault) (vs : List ℕ) where
       mapped : getD (outputs c f vs) o (shown f vs 0) ≡ getD vs (getD (outputLines c) o 0) X
       mapped = unfold outputs shown in List·getD-map (λ n. getD vs n X) (outputLines c) o 0
 
+  -- what was read for output o
+  pub output-read : (lane : ℕ) (ws table : List ℕ) (o : ℕ) (r : Lanes) → OutputAt c table o → r ≡ lanesAt ws (getD table o 0) → Lane lane ws vs → length vs ≡ N c → o < O c
+      → Holds lane r (getD (outputs c f vs) o X)
+  output-read lane ws table o r at e l n h =
+      rw (← (shown-at o h)) (lane-read lane ws vs r _ (getD (outputLines c) o 0) e (at .line) l (omega (arith, at .below, at .line)))
+
+  pub outputs-three : (o : ℕ) → ThreeValued vs → o < O c → getD (outputs c f vs) o X < 3
+  outputs-three o w h = rw (← (shown-at o h)) (three-at vs _ w)
+
 -- ---- the lanes in which an output opposes
 someOppose-more : (row bs : List ℕ) (v : ℕ) → length bs < length row → someOppose row (bs ++ (v ∷ [])) ≡ (someOppose row bs || opposes (getD row (length bs) 0) v)
 unfolding someOppose
@@ -161,11 +171,11 @@ module _ (c : List ℕ) (lane : ℕ) where
   pub power-none : (ws : List ℕ) → Lane lane ws (take 0 (powerUp c))
   power-none ws = lane-none lane ws [] refl
 
-  pub power-more : (ws ws′ : List ℕ) (s : ℕ) → ws′ ≡ set (set ws (2 * s) 0) (2 * s + 1) 0 → s < F c → 2 * s + 2 ≤ length ws → Lane lane ws (take s (powerUp c)) → Lane lane ws′ (take (s + 1) (powerUp c))
+  pub power-more : (ws ws′ : List ℕ) (s : ℕ) → ws′ ≡ stored ws s allX → s < F c → Room (s + 1) ws → Lane lane ws (take s (powerUp c)) → Lane lane ws′ (take (s + 1) (powerUp c))
   power-more ws ws′ s e h room l =
       let long : length (powerUp c) ≡ F c = length-powerUp c in
       let more : take (s + 1) (powerUp c) ≡ take s (powerUp c) ++ (X ∷ []) = rw (add-one s) (take-suc (powerUp c) s X (omega arith) ∙ ap (λ v. take s (powerUp c) ++ (v ∷ [])) at-x) in
-      rw (e, more) (lane-add lane ws (take s (powerUp c)) s 0 0 X (length-take-le s (powerUp c) (omega arith)) room l (shows-x lane X (omega arith)))
+      rw (e, more) (lane-add lane ws (take s (powerUp c)) s allX X (length-take-le s (powerUp c) (omega arith)) room l (shows-x lane X (omega arith)))
     where
       at-x : getD (powerUp c) s X ≡ X
       at-x = unfold powerUp in getD-replicate {A = ℕ} (F c) s X X h

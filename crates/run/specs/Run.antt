@@ -2,11 +2,11 @@
 use Prim.Native.Nat.{ℕ, _*_, _≤_}
 use mathlib.Core.List.{List, _++_}
 use lib.ListN.{length, take, drop}
-use Rattle.model.specs.Inputs.{N, F, flipFlops, outputLines, Fault}
+use Rattle.model.specs.Inputs.{N, F, Fault}
 use Rattle.model.specs.Accepted.{ValidCircuit, ValidTest}
 use Rattle.model.specs.Simulation.{stateAt, outputsAt}
 use Rattle.lanes.specs.Lane.{Room}
-use Rattle.circuit.specs.Table.{Listed, PinTable}
+use Rattle.circuit.specs.Table.{Tables}
 use Rattle.job.specs.Job.{JobOf}
 use Rattle.job.specs.declared.Job.{Job}
 use Rattle.unit.specs.Unit.{MaskRoom}
@@ -16,9 +16,7 @@ pub record Runnable (c t : List ℕ) (job : Job) (pins flops outs hits masks wor
   pub circuit : ValidCircuit c
   pub test : ValidTest c t
   pub sizes : JobOf c t job
-  pub pinTable : PinTable c pins
-  pub flopTable : Listed (flipFlops c) flops
-  pub outputTable : Listed (outputLines c) outs
+  pub tables : Tables c pins flops outs
   pub hitRoom : N c ≤ length hits
   pub maskRoom : MaskRoom masks
   pub lineRoom : Room (N c) words

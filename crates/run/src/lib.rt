@@ -1,8 +1,8 @@
-// Runs of a test in 64 lanes, unit by unit: what lane 0 shows, as tables in a lent area, and the lanes in which an output opposes.
+// Runs of a test in 64 lanes, unit by unit: what a lane shows, as tables in a lent area, and the lanes in which an output opposes.
 ghost use mathlib.Core.Bool.{_&&_};
 ghost use mathlib.Core.List.{List, _++_};
 ghost use mathlib.Core.Path.{_≡_};
-ghost use Prim.Native.Nat.{ℕ, _+_, _*_, _≤_};
+ghost use Prim.Native.Nat.{ℕ, _+_, _*_, _<_, _≤_};
 ghost use lib.ListN.{length, take};
 ghost use Rattle.lists.specs.Scan.{anyBelow, gather};
 ghost use Rattle.lists.specs.Field.{overwritten};
@@ -52,7 +52,7 @@ pub fn power_up(c: &[u8], count: usize, state: &mut [u64])
     }
 }
 
-// What the outputs, whose lines `outs` lists, show in lane 0, one byte each, from `place` on.
+// What the outputs, whose lines `outs` lists, show in a lane, one byte each, at the area's beginning.
 pub fn write_outputs(
     c: &[u8],
     outs: &[usize],
@@ -60,36 +60,56 @@ pub fn write_outputs(
     hits: &[u8],
     masks: &[u64],
     words: &[u64],
+    lane: usize,
     area: &mut [u8],
-    place: usize,
 )
-    requires { ⌜ (ValidCircuit (now c)) × (Listed (outputLines (now c)) (now outs)) × (count ≡ O (now c)) × (Room (N (now c)) (now words)) × (place + count ≤ length (now area)) ⌝ }
-    ensures { λ _. ⌜ ((f : Fault) (vs done old : List ℕ) → Stuck 0 (now (hits .entry)) (now (masks .entry)) f → Lane 0 (now (words .entry)) vs → length vs ≡ N (now (c .entry)) → ThreeValued vs
-        → now (area .entry) ≡ overwritten done old → length done ≡ place → now (area .exit) ≡ overwritten (done ++ outputs (now (c .entry)) f vs) old) ⌝ }
+    requires { ⌜ (ValidCircuit (now c)) × (Listed (outputLines (now c)) (now outs)) × (count ≡ O (now c)) × (Room (N (now c)) (now words)) × (lane < 64) × (count ≤ length (now area)) ⌝ }
+    ensures { λ _. ⌜ ((f : Fault) (vs : List ℕ) → Stuck lane (now (hits .entry)) (now (masks .entry)) f → Lane lane (now (words .entry)) vs → length vs ≡ N (now (c .entry)) → ThreeValued vs
+        → now (area .exit) ≡ overwritten (outputs (now (c .entry)) f vs) (now (area .entry))) ⌝ }
 {
     let mut o: usize = 0;
     while o < count {
         let x = lanes::read(words, outs[o]);
-        area[place + o] = x.lane(0);
+        area[o] = x.lane(lane);
         o += 1;
     }
 }
 
-// The first so many bits of the state in lane 0, one byte each, from `place` on.
-pub fn write_state(state: &[u64], count: usize, area: &mut [u8], place: usize)
-    requires { ⌜ (Room count (now state)) × (place + count ≤ length (now area)) ⌝ }
-    ensures { λ _. ⌜ ((st done old : List ℕ) → Lane 0 (now (state .entry)) st → count ≤ length st → ThreeValued st
-        → now (area .entry) ≡ overwritten done old → length done ≡ place → now (area .exit) ≡ overwritten (done ++ take count st) old) ⌝ }
+// The first so many bits of the state in a lane, one byte each, at the area's beginning.
+pub fn write_state(state: &[u64], count: usize, lane: usize, area: &mut [u8])
+    requires { ⌜ (Room count (now state)) × (lane < 64) × (count ≤ length (now area)) ⌝ }
+    ensures { λ _. ⌜ ((st : List ℕ) → Lane lane (now (state .entry)) st → count ≤ length st → ThreeValued st → now (area .exit) ≡ overwritten (take count st) (now (area .entry))) ⌝ }
 {
     let mut s: usize = 0;
     while s < count {
         let x = lanes::read(state, s);
-        area[place + s] = x.lane(0);
+        area[s] = x.lane(lane);
         s += 1;
     }
 }
 
-// The run of lane 0, a row a unit: the responses, then the first so many bits of the state.
+// A lane's row of a unit: what the outputs show, then the first so many bits of the state.
+fn write_row(
+    c: &[u8],
+    outs: &[usize],
+    count: usize,
+    hits: &[u8],
+    masks: &[u64],
+    words: &[u64],
+    state: &[u64],
+    bits: usize,
+    lane: usize,
+    area: &mut [u8],
+)
+    requires { ⌜ (ValidCircuit (now c)) × (Listed (outputLines (now c)) (now outs)) × (count ≡ O (now c)) × (Room (N (now c)) (now words)) × (Room bits (now state)) × (lane < 64) × (count + bits ≤ length (now area)) ⌝ }
+    ensures { λ _. ⌜ ((f : Fault) (vs st : List ℕ) → Stuck lane (now (hits .entry)) (now (masks .entry)) f → Lane lane (now (words .entry)) vs → length vs ≡ N (now (c .entry)) → ThreeValued vs
+        → Lane lane (now (state .entry)) st → bits ≤ length st → ThreeValued st → now (area .exit) ≡ overwritten (outputs (now (c .entry)) f vs ++ take bits st) (now (area .entry))) ⌝ }
+{
+    write_outputs(c, outs, count, hits, masks, words, lane, area);
+    write_state(state, bits, lane, &mut area[count..]);
+}
+
+// The run of a lane, a row a unit: the responses, then the first so many bits of the state.
 pub fn write_rows(
     c: &[u8],
     job: Job,
@@ -102,10 +122,11 @@ pub fn write_rows(
     masks: &[u64],
     words: &mut [u64],
     state: &mut [u64],
+    lane: usize,
     area: &mut [u8],
 )
-    requires { ⌜ (Runnable (now c) (now t) job (now pins) (now flops) (now outs) (now hits) (now masks) (now words) (now state)) × (bits ≤ F (now c)) × (L (now c) (now t) * (O (now c) + bits) ≤ length (now area)) ⌝ }
-    ensures { λ _. ⌜ ((f : Fault) (st : List ℕ) → Stuck 0 (now (hits .entry)) (now (masks .entry)) f → Lane 0 (now (state .entry)) st → length st ≡ F (now (c .entry)) → ThreeValued st
+    requires { ⌜ (Runnable (now c) (now t) job (now pins) (now flops) (now outs) (now hits) (now masks) (now words) (now state)) × (bits ≤ F (now c)) × (lane < 64) × (L (now c) (now t) * (O (now c) + bits) ≤ length (now area)) ⌝ }
+    ensures { λ _. ⌜ ((f : Fault) (st : List ℕ) → Stuck lane (now (hits .entry)) (now (masks .entry)) f → Lane lane (now (state .entry)) st → length st ≡ F (now (c .entry)) → ThreeValued st
         → now (area .exit) ≡ overwritten (gather (λ u. runRow (now (c .entry)) (now (t .entry)) f st bits u) (L (now (c .entry)) (now (t .entry)))) (now (area .entry))) ⌝ }
 {
     let size = job.outputs + bits;
@@ -124,8 +145,18 @@ pub fn write_rows(
             masks,
             words,
         );
-        write_outputs(c, outs, job.outputs, hits, masks, words, area, place);
-        write_state(state, bits, area, place + job.outputs);
+        write_row(
+            c,
+            outs,
+            job.outputs,
+            hits,
+            masks,
+            words,
+            state,
+            bits,
+            lane,
+            &mut area[place..],
+        );
         unit::next_state(c, flops, job.flops, hits, masks, words, state);
         u += 1;
     }

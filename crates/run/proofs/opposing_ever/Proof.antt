@@ -16,11 +16,6 @@ use Rattle.run.specs.Run.{rowOf}
 use Rattle.run.proofs.Laws.{record-fits, part-row, row-long, test-fits, ever-none, ever-more, ever-stop, ever-all, state-turn, length-state}
 use Rattle.run.proofs.opposing_ever.Statement.{statement}
 use Rattle.run.proofs.opposing_ever.Tie as tie
-use Rattle.run.proofs.opposing_ever.Reads as reads
-use Rattle.run.proofs.opposing_ever.Lts as lts
-use Rattle.run.proofs.opposing.Reads as opposing-reads
-use Rattle.run.proofs.values_at.Reads as values-at-reads
-use Rattle.unit.proofs.next_state.Reads as next-state-reads
 
 abbrev Inv-loop : tie.InvT-loop
 Inv-loop c job t units free wanted pins flops outs hits masks words₀ state₀ found₀ u₀ words state found u =

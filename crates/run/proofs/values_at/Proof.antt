@@ -2,9 +2,10 @@ use Rattle.run.proofs.Laws.{part-inputs}
 use borrow.Author.Needs.{needs}
 use Rattle.run.proofs.values_at.Statement.{statement}
 use Rattle.run.proofs.values_at.Tie as tie
-use Rattle.run.proofs.values_at.Reads as reads
-use Rattle.run.proofs.values_at.Lts as lts
-use Rattle.unit.proofs.simulate_unit.Reads as simulate-unit-reads
+
+-- places
+abbrev entry : tie.After-simulate-unit → tie.Start
+entry c = c .before .before .before .before .before .before .before .before .before .before
 
 mul-at : tie.Need-mul-at
 mul-at c = search needs
@@ -29,7 +30,7 @@ same-length c = search needs
 
 returns : tie.Need-returns
 returns c = λ lane f st s l e.
-    let start = c .before .before .before .before .before .before .before .before .before .before .before .before in
+    let start = entry (c .before .before) in
     rw (← (part-inputs (start .args .c .now) (start .args .t .now) (start .args .inputs) (start .args .u) (start .pre .3))) (c .before .before .simulate-unit .ensures lane f st s l e)
 
 pub values-at-spec : {M : Type 1} → statement M

@@ -1,97 +1,89 @@
+-- The area begins with what the outputs below o show.
 use mathlib.Core.Path.{_≡_, refl, _∙_}
-use mathlib.Core.List.{List, _++_}
-use Prim.Native.Nat.{ℕ, _+_, _-_, _<_, _≤_}
-use lib.ListN.{getD, length, take, length-set}
+use mathlib.Core.List.{List}
+use Prim.Native.Nat.{ℕ, _-_, _<_, _≤_}
+use lib.ListN.{length, take, length-set}
 use native.Mathlib.Omega.{arith}
 use Rattle.lists.specs.Field.{overwritten}
-use Rattle.lists.proofs.Field.{row-none, row-more, row-all}
-use Rattle.model.specs.Inputs.{N, O, outputLines, Fault}
+use Rattle.lists.proofs.Field.{row-more, row-all}
+use Rattle.model.specs.Inputs.{N, O, Fault}
 use Rattle.model.specs.Values.{X}
 use Rattle.model.specs.Accepted.{ThreeValued}
 use Rattle.model.specs.Simulation.{outputs}
 use Rattle.lanes.specs.Lane.{Lane}
-use Rattle.unit.proofs.Laws.{lane-read}
-use Rattle.run.proofs.Laws.{OutputAt, output-at, length-outputs, shown-at, three-at}
+use Rattle.run.proofs.Laws.{OutputAt, output-at, length-outputs, output-read, outputs-three}
 use Rattle.run.proofs.write_outputs.Statement.{statement}
 use Rattle.run.proofs.write_outputs.Tie as tie
-use Rattle.run.proofs.write_outputs.Reads as reads
-use Rattle.run.proofs.write_outputs.Lts as lts
-use Rattle.lanes.proofs.Lanes.lane.Reads as lane-reads
-use Rattle.lanes.proofs.read.Reads as read-reads
 
 abbrev Inv-loop : tie.InvT-loop
-Inv-loop c outs count hits masks words area₀ place o₀ area o =
+Inv-loop c outs count hits masks words lane area₀ o₀ area o =
     (o ≤ count) × (length area ≡ length area₀)
-    × ((f : Fault) (vs done old : List ℕ) → Lane 0 words vs → length vs ≡ N c → ThreeValued vs → area₀ ≡ overwritten done old → length done ≡ place
-    → area ≡ overwritten (done ++ take o (outputs c f vs)) old)
+    × ((f : Fault) (vs : List ℕ) → Lane lane words vs → length vs ≡ N c → ThreeValued vs → area ≡ overwritten (take o (outputs c f vs)) area₀)
 
 abbrev μ-loop : tie.MeasureT-loop
-μ-loop c outs count hits masks words area₀ place o₀ area o = count - o
+μ-loop c outs count hits masks words lane area₀ o₀ area o = count - o
 
-at : (c : tie.In-loop Inv-loop μ-loop) → OutputAt (c .before .before .before .before .before .before .before .before .args .c .now)
-    (c .before .before .before .before .before .before .before .before .args .outs .now) (c .before .loop .o)
-at c =
-    let start = c .before .before .before .before .before .before .before .before in
-    output-at _ _ (start .pre .1) _ (omega (arith, c .loop-test .taken, start .pre .2))
+-- places
+abbrev Loop : Type 0
+Loop = tie.At-loop Inv-loop μ-loop
 
-inside : (c : tie.After-lane Inv-loop μ-loop) → c .before .before .before .before .before .before .before .before .before .before .before .args .place + c .before .before .before .before .loop .o < length (c .before .before .before .before .loop .area)
-inside c =
-    let turn = c .before .before .before in
-    let start = turn .before .before .before .before .before .before .before .before in
-    omega (arith, turn .loop-test .taken, turn .before .loop .inv .1, start .pre .4)
+abbrev start : Loop → tie.Start Inv-loop μ-loop
+start l = l .before .before .before .before .before .before .before
+
+abbrev turn : tie.After-lane Inv-loop μ-loop → tie.In-loop Inv-loop μ-loop
+turn c = c .before .before .before
+
+below : (c : tie.In-loop Inv-loop μ-loop) → c .before .loop .o < O (start (c .before) .args .c .now)
+below c = omega (arith, c .loop-test .taken, start (c .before) .pre .2)
+
+at : (c : tie.In-loop Inv-loop μ-loop) → OutputAt (start (c .before) .args .c .now) (start (c .before) .args .outs .now) (c .before .loop .o)
+at c = output-at _ _ (start (c .before) .pre .1) _ (below c)
 
 loop-holds : tie.Need-loop-holds Inv-loop μ-loop
-loop-holds c = (omega arith, refl, λ f vs done old l e w a d. row-none done (outputs (c .before .before .before .before .before .before .args .c .now) f vs) old _ a)
+loop-holds c = (omega arith, refl, λ f vs l e w. unfold overwritten in refl)
 
 mul-read : tie.Need-mul-read Inv-loop μ-loop
-mul-read c = let start = c .before .before .before .before .before .before .before .before in omega (arith, start .pre .0 .outputs, start .pre .2)
+mul-read c = let pre = start (c .before) .pre in omega (arith, pre .0 .outputs, pre .2)
 
 shared-slice-read-read : tie.Need-shared-slice-read-read Inv-loop μ-loop
 shared-slice-read-read c = at (c .before) .place
 
 read-requires : tie.Need-read-requires Inv-loop μ-loop
-read-requires c κs = omega (arith, at (c .before) .below, c .before .before .before .before .before .before .before .before .before .pre .3)
+read-requires c κs = omega (arith, at (c .before) .below, start (c .before .before) .pre .3)
 
 lane-requires : tie.Need-lane-requires Inv-loop μ-loop
-lane-requires c κs = omega arith
-
-add-area : tie.Need-add-area Inv-loop μ-loop
-add-area c = let start = c .before .before .before .before .before .before .before .before .before .before .before in omega (arith, start .pre .4, c .before .before .before .loop-test .taken)
+lane-requires c κs = start (c .before .before .before) .pre .4
 
 slice-write-area : tie.Need-slice-write-area Inv-loop μ-loop
-slice-write-area c = inside c
+slice-write-area c = let in-loop = turn c in omega (arith, in-loop .loop-test .taken, in-loop .before .loop .inv .1, start (in-loop .before) .pre .5)
 
 add-o : tie.Need-add-o Inv-loop μ-loop
-add-o c = omega (arith, c .before .before .before .loop-test .taken)
+add-o c = omega (arith, turn c .loop-test .taken)
 
 loop-less : tie.Need-loop-less Inv-loop μ-loop
-loop-less c = omega (arith, c .before .before .before .loop-test .taken)
+loop-less c = omega (arith, turn c .loop-test .taken)
 
 loop-again : tie.Need-loop-again Inv-loop μ-loop
 loop-again c =
-    let turn = c .before .before .before in
-    let loop = turn .before .loop in
-    let start = turn .before .before .before .before .before .before .before .before in
-    let output = at turn in
-    let read = c .before .read .ensures in
-    let line = getD (outputLines (start .args .c .now)) (loop .o) 0 in
-    let below : loop .o < O (start .args .c .now) = omega (arith, turn .loop-test .taken, start .pre .2) in (
-      omega (arith, turn .loop-test .taken),
+    let in-loop = turn c in
+    let loop = in-loop .before .loop in
+    let pre = start (in-loop .before) .pre in (
+      omega (arith, in-loop .loop-test .taken),
       simp length-set (loop .inv .1),
-      λ f vs done old l e w a d.
-          row-more done (outputs _ f vs) old _ _ _ _ _ X refl
-          (c .lane .ensures (getD vs line X) (three-at vs line w) (read 0 _ (lane-read 0 _ vs _ line l (output .line) (omega (arith, output .below, output .line, e)))) ∙ shown-at _ f vs _ below)
-          d (rw (length-outputs _ f vs) below) (inside c) (loop .inv .2 f vs done old l e w a d),
+      λ f vs l e w.
+          row-more (outputs _ f vs) _ _ _ _ _ X refl
+          (c .lane .ensures _ (outputs-three _ f vs _ w (below in-loop)) (output-read _ f vs _ _ _ _ _ (at in-loop) (c .before .read .ensures) l e (below in-loop)))
+          (rw (length-outputs _ f vs) (below in-loop)) (omega (arith, in-loop .loop-test .taken, pre .5)) (loop .inv .2 f vs l e w),
     )
 
 same-length : tie.Need-same-length Inv-loop μ-loop
 same-length c = c .before .loop .inv .1
 
 returns : tie.Need-returns Inv-loop μ-loop
-returns c = λ f vs done old s l e w a d.
-    let start = c .before .before .before .before .before .before .before .before in
-    let long = length-outputs (start .args .c .now) f vs in
-    row-all done (outputs (start .args .c .now) f vs) old _ (c .before .loop .o) (omega (arith, long, c .before .loop .inv .0, c .loop-test .left, start .pre .2)) (c .before .loop .inv .2 f vs done old l e w a d)
+returns c = λ f vs s l e w.
+    let loop = c .before .loop in
+    let begin = start (c .before) in
+    row-all (outputs (begin .args .c .now) f vs) _ _ (loop .o) (omega (arith, length-outputs (begin .args .c .now) f vs, loop .inv .0, c .loop-test .left, begin .pre .2)) (loop .inv .2 f vs l e w)
 
 pub write-outputs-spec : {M : Type 1} → statement M
 write-outputs-spec =
@@ -104,7 +96,6 @@ write-outputs-spec =
     shared-slice-read-read
     read-requires
     lane-requires
-    add-area
     slice-write-area
     add-o
     loop-less

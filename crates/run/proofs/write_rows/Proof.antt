@@ -1,11 +1,10 @@
-use mathlib.Core.Path.{_≡_, refl, sym, _∙_}
+-- The area begins with the rows of the units below u, and the state is the run's at u.
+use mathlib.Core.Path.{_≡_, refl, _∙_}
 use mathlib.Core.List.{List, _++_}
-use Prim.Native.Nat.{ℕ, _+_, _*_, _-_, _≤_}
-use lib.ListN.{length, length-append}
+use Prim.Native.Nat.{ℕ, _+_, _*_, _-_, _<_, _≤_}
+use lib.ListN.{length, take, length-append}
 use native.Mathlib.Omega.{arith}
-use Rattle.lists.specs.Scan.{gather}
 use Rattle.lists.specs.Field.{overwritten}
-use Rattle.lists.proofs.Field.{overwritten-none}
 use Rattle.model.specs.Inputs.{F, L, inputsAt, Fault}
 use Rattle.model.specs.Accepted.{ThreeValued}
 use Rattle.model.specs.Simulation.{lineValues, outputs, stateAt}
@@ -13,7 +12,7 @@ use Rattle.model.proofs.Runs.{length-lineValues}
 use Rattle.model.proofs.ThreeValued.{stateAt-three}
 use Rattle.lanes.specs.Lane.{Lane}
 use Rattle.unit.specs.Unit.{Stuck}
-use Rattle.run.proofs.Laws.{RowRoom, row-room, test-fits, stuck-binary, values-three, state-turn, length-state, length-outputs, rows, length-rows, rows-turn}
+use Rattle.run.proofs.Laws.{test-fits, RowRoom, row-room, length-outputs, stuck-binary, values-three, state-turn, length-state, rows, length-rows, rows-turn}
 use Rattle.run.proofs.write_rows.Statement.{statement}
 use Rattle.run.proofs.write_rows.Tie as tie
 use Rattle.run.proofs.write_rows.Reads as reads
@@ -24,103 +23,93 @@ use Rattle.run.proofs.write_state.Reads as write-state-reads
 use Rattle.unit.proofs.next_state.Reads as next-state-reads
 
 abbrev Inv-loop : tie.InvT-loop
-Inv-loop c job t bits pins flops outs hits masks words₀ state₀ area₀ size u₀ words state area u =
+Inv-loop c job t bits pins flops outs hits masks words₀ state₀ lane area₀ size u₀ words state area u =
     (u ≤ job .units) × (length words ≡ length words₀) × (length state ≡ length state₀) × (length area ≡ length area₀)
-    × ((f : Fault) (st : List ℕ) → Stuck 0 hits masks f → Lane 0 state₀ st → length st ≡ F c → ThreeValued st
-    → Lane 0 state (stateAt c t f st u) × (area ≡ overwritten (rows c t f st bits u) area₀))
+    × ((f : Fault) (st : List ℕ) → Stuck lane hits masks f → Lane lane state₀ st → length st ≡ F c → ThreeValued st
+    → Lane lane state (stateAt c t f st u) × (area ≡ overwritten (rows c t f st bits u) area₀))
 
 abbrev μ-loop : tie.MeasureT-loop
-μ-loop c job t bits pins flops outs hits masks words₀ state₀ area₀ size u₀ words state area u = job .units - u
+μ-loop c job t bits pins flops outs hits masks words₀ state₀ lane area₀ size u₀ words state area u = job .units - u
 
-room : (c : tie.Then1 Inv-loop μ-loop) → RowRoom (c .before .before .before .before .before .before .before .before .before .before .before .before .before .before .args .job .outputs + c .before .before .before .before .before .before .before .before .before .before .before .before .before .before .args .bits) (c .before .before .loop .u) (length (c .before .before .before .before .before .before .before .before .before .before .before .before .before .before .args .area .now))
-room c =
-    let pre = c .before .before .before .before .before .before .before .before .before .before .before .before .before .before .pre in
-    row-room _ _ _ _ _ _ (pre .0 .circuit) (pre .0 .test) (pre .0 .sizes) (pre .1) (pre .2) (c .if1 .taken)
+-- places
+abbrev Loop : Type 0
+Loop = tie.At-loop Inv-loop μ-loop
+
+abbrev start : Loop → tie.Start Inv-loop μ-loop
+start l = l .before .before .before .before .before .before .before .before .before .before .before .before
+
+abbrev turn : tie.Then1 Inv-loop μ-loop → Loop
+turn c = c .before .before
+
+abbrev valued : tie.After-write-outputs-arg Inv-loop μ-loop → tie.After-values-at Inv-loop μ-loop
+valued c = c .before .before .before
+
+abbrev in-loop : tie.After-values-at Inv-loop μ-loop → tie.Then1 Inv-loop μ-loop
+in-loop c = c .before .before .before .before
+
+abbrev shown : tie.After-write-state-arg Inv-loop μ-loop → tie.After-write-outputs Inv-loop μ-loop
+shown c = c .before .before .before
+
+abbrev kept : tie.After-next-state-arg2 Inv-loop μ-loop → tie.After-write-state Inv-loop μ-loop
+kept c = c .before .before .before .before
+
+abbrev next : tie.After-slice-known7 Inv-loop μ-loop → tie.After-next-state Inv-loop μ-loop
+next c = c .before .before
+
+-- row u has its place in the area
+room : (c : tie.Then1 Inv-loop μ-loop) → let s = start (turn c) in RowRoom (s .args .job .outputs + s .args .bits) (turn c .loop .u) (length (s .args .area .now))
+room c = let pre = start (turn c) .pre in row-room _ _ _ _ _ _ (pre .0 .circuit) (pre .0 .test) (pre .0 .sizes) (pre .1) (pre .3) (c .if1 .taken)
 
 add-size : tie.Need-add-size Inv-loop μ-loop
-add-size c = let pre = c .before .before .before .before .before .before .before .before .before .before .before .pre in omega (arith, pre .0 .sizes .outputs, pre .1, pre .0 .circuit .outputs, pre .0 .circuit .flipFlops)
+add-size c = search needs
 
 loop-holds : tie.Need-loop-holds Inv-loop μ-loop
-unfolding stateAt rows gather
-loop-holds c = (omega arith, refl, refl, refl, λ f st s l e w. (l, sym (overwritten-none _)))
+loop-holds c = search needs
 
 mul-place : tie.Need-mul-place Inv-loop μ-loop
 mul-place c = omega (arith, room c .below)
 
+add-behind : tie.Need-add-behind Inv-loop μ-loop
+add-behind c = search needs
+
 values-at-requires : tie.Need-values-at-requires Inv-loop μ-loop
-values-at-requires c κs =
-    let loop = c .before .before .before .before .loop in
-    let pre = c .before .before .before .before .before .before .before .before .before .before .before .before .before .before .before .before .pre in
-    let job = pre .0 .sizes in (
-      pre .0 .circuit,
-      pre .0 .pinTable,
-      job .lines,
-      job .inputs,
-      test-fits _ _ _ _ job (pre .0 .test) (c .before .before .if1 .taken),
-      omega (arith, job .lines, pre .0 .hitRoom),
-      pre .0 .maskRoom,
-      omega (arith, job .lines, pre .0 .lineRoom, loop .inv .1),
-      omega (arith, pre .0 .stateRoom, loop .inv .2),
-    )
+values-at-requires c κs = search needs
+
+sub-write-outputs : tie.Need-sub-write-outputs Inv-loop μ-loop
+sub-write-outputs c = search needs
+
+part-write-outputs-start : tie.Need-part-write-outputs-start Inv-loop μ-loop
+part-write-outputs-start c = search needs
+
+part-write-outputs-end : tie.Need-part-write-outputs-end Inv-loop μ-loop
+part-write-outputs-end c = search needs
 
 write-outputs-requires : tie.Need-write-outputs-requires Inv-loop μ-loop
-write-outputs-requires c κs =
-    let loop = c .before .before .before .before .before .before .before .before .before .loop in
-    let pre = c .before .before .before .before .before .before .before .before .before .before .before .before .before .before .before .before .before .before .before .before .before .pre in
-    (pre .0 .circuit, pre .0 .outputTable, pre .0 .sizes .outputs, omega (arith, pre .0 .lineRoom, loop .inv .1), omega (arith, room (c .before .before .before .before .before .before .before) .fits, loop .inv .3))
+write-outputs-requires c κs = search needs
 
-add-write-state : tie.Need-add-write-state Inv-loop μ-loop
-add-write-state c = omega (arith, room (c .before .before .before .before .before .before .before .before .before .before .before .before .before) .below, c .before .before .before .before .before .before .before .before .before .before .before .before .before .before .before .before .before .before .before .before .before .before .before .before .before .before .before .pre .0 .sizes .outputs, c .before .before .before .before .before .before .before .before .before .before .before .before .before .before .before .before .before .before .before .before .before .before .before .before .before .before .before .pre .0 .circuit .outputs)
+sub-write-state : tie.Need-sub-write-state Inv-loop μ-loop
+sub-write-state c = search needs
+
+part-write-state-start : tie.Need-part-write-state-start Inv-loop μ-loop
+part-write-state-start c = search needs
+
+part-write-state-end : tie.Need-part-write-state-end Inv-loop μ-loop
+part-write-state-end c = search needs
 
 write-state-requires : tie.Need-write-state-requires Inv-loop μ-loop
-write-state-requires c κs =
-    let loop = c .before .before .before .before .before .before .before .before .before .before .before .before .before .before .before .loop in
-    let pre = c .before .before .before .before .before .before .before .before .before .before .before .before .before .before .before .before .before .before .before .before .before .before .before .before .before .before .before .pre in
-    (omega (arith, pre .1, pre .0 .stateRoom, loop .inv .2), omega (arith, room (c .before .before .before .before .before .before .before .before .before .before .before .before .before) .fits, loop .inv .3, c .before .before .before .before .area .given))
+write-state-requires c κs = search needs
 
 next-state-requires : tie.Need-next-state-requires Inv-loop μ-loop
-next-state-requires c κs =
-    let loop = c .before .before .before .before .before .before .before .before .before .before .before .before .before .before .before .before .before .before .before .before .loop in
-    let pre = c .before .before .before .before .before .before .before .before .before .before .before .before .before .before .before .before .before .before .before .before .before .before .before .before .before .before .before .before .before .before .before .before .pre in
-    (pre .0 .circuit, pre .0 .flopTable, pre .0 .sizes .flops, pre .0 .hitRoom, pre .0 .maskRoom, omega (arith, pre .0 .lineRoom, loop .inv .1), omega (arith, pre .0 .sizes .flops, pre .0 .stateRoom, loop .inv .2))
+next-state-requires c κs = search needs
 
 add-u : tie.Need-add-u Inv-loop μ-loop
-add-u c = omega (arith, c .before .before .before .before .before .before .before .before .before .before .before .before .before .before .before .before .before .before .before .before .before .if1 .taken)
+add-u c = search needs
 
 loop-less : tie.Need-loop-less Inv-loop μ-loop
-loop-less c = omega (arith, c .before .before .before .before .before .before .before .before .before .before .before .before .before .before .before .before .before .before .before .before .before .if1 .taken)
+loop-less c = search needs
 
 loop-again : tie.Need-loop-again Inv-loop μ-loop
-loop-again c =
-    let loop = c .before .before .before .before .before .before .before .before .before .before .before .before .before .before .before .before .before .before .before .before .before .before .before .loop in
-    let start = c .before .before .before .before .before .before .before .before .before .before .before .before .before .before .before .before .before .before .before .before .before .before .before .before .before .before .before .before .before .before .before .before .before .before .before in
-    let cs = start .args .c .now in
-    let ts = start .args .t .now in
-    let job = start .pre .0 .sizes in
-    let bits = start .args .bits in
-    let u = loop .u in (
-      omega (arith, c .before .before .before .before .before .before .before .before .before .before .before .before .before .before .before .before .before .before .before .before .before .if1 .taken),
-      omega (arith, loop .inv .1, c .before .before .before .before .before .before .before .before .before .before .before .before .before .before .before .before .before .words .given),
-      omega (arith, loop .inv .2, c .before .state .given),
-      omega (arith, loop .inv .3, c .before .before .before .before .before .before .before .before .before .before .before .before .area .given, c .before .before .before .before .before .before .area2 .given),
-      λ f st s l e w.
-          let before = loop .inv .4 f st s l e w in
-          let state = stateAt cs ts f st u in
-          let vs = lineValues cs f (inputsAt cs ts u) state in
-          let values = c .before .before .before .before .before .before .before .before .before .before .before .before .before .before .before .before .before .before .values-at .ensures 0 f state s (before .0) (length-state cs ts f st u e) in
-          let long = length-lineValues cs f (inputsAt cs ts u) state in
-          let binary = stuck-binary cs 0 _ _ f (start .pre .0 .circuit) (start .pre .0 .hitRoom) s in
-          let place : length (rows cs ts f st bits u) ≡ (start .args .job .outputs + bits) * u = length-rows cs ts f st bits u e (start .pre .1) ∙ rw (job .outputs) in
-          let behind : length (rows cs ts f st bits u ++ outputs cs f vs) ≡ (start .args .job .outputs + bits) * u + start .args .job .outputs =
-          length-append (rows cs ts f st bits u) (outputs cs f vs) ∙ rw (place, length-outputs cs f vs, job .outputs) in (
-            rw (state-turn cs ts f st u) (c .before .before .next-state .ensures 0 f vs s values long),
-            rw (rows-turn cs ts f st bits u)
-                (c .before .before .before .before .before .before .before .write-state .ensures state (rows cs ts f st bits u ++ outputs cs f vs) (start .args .area .now) (before .0) (omega (arith, length-state cs ts f st u e, start .pre .1))
-                (stateAt-three cs f binary ts st u (start .pre .0 .test .bytes) w)
-                (c .before .before .before .before .before .before .before .before .before .before .before .before .before .write-outputs .ensures f vs (rows cs ts f st bits u) (start .args .area .now) s values long (values-three cs ts f st u binary (start .pre .0 .test) w) (before .1) place)
-                behind),
-          ),
-    )
+loop-again c = search needs
 
 same-length : tie.Need-same-length Inv-loop μ-loop
 same-length c = c .before .before .loop .inv .1
@@ -135,8 +124,8 @@ returns : tie.Need-returns Inv-loop μ-loop
 unfolding rows
 returns c = λ f st s l e w.
     let loop = c .before .before .loop in
-    let start = c .before .before .before .before .before .before .before .before .before .before .before .before .before .before in
-    let end : loop .u ≡ L (start .args .c .now) (start .args .t .now) = omega (arith, loop .inv .0, c .if1 .left, start .pre .0 .sizes .units) in
+    let begin = start (c .before .before) in
+    let end : loop .u ≡ L (begin .args .c .now) (begin .args .t .now) = omega (arith, loop .inv .0, c .if1 .left, begin .pre .0 .sizes .units) in
     rw (← end) (loop .inv .4 f st s l e w .1)
 
 pub write-rows-spec : {M : Type 1} → statement M
@@ -148,9 +137,15 @@ write-rows-spec =
     add-size
     loop-holds
     mul-place
+    add-behind
     values-at-requires
+    sub-write-outputs
+    part-write-outputs-start
+    part-write-outputs-end
     write-outputs-requires
-    add-write-state
+    sub-write-state
+    part-write-state-start
+    part-write-state-end
     write-state-requires
     next-state-requires
     add-u
