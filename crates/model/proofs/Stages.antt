@@ -14,7 +14,7 @@ use Rattle.model.specs.Grade.{Verdict, placed, opposedAt, stage1, stage2
 use Rattle.lists.proofs.Tests.{cond-cases}
 use Rattle.lists.proofs.Scan.{else-some, else-found, else-skips, given-cases, first-none, first-some, Lowest, firstPair-some, firstPair-none, Found}
 
-atPair-none : (make : ℕ → ℕ → Verdict) (o : Option (ℕ × ℕ)) → atPair make o ≡ none → o ≡ none
+pub atPair-none : (make : ℕ → ℕ → Verdict) (o : Option (ℕ × ℕ)) → atPair make o ≡ none → o ≡ none
 unfolding atPair
 atPair-none make none e = refl
 atPair-none make (some q) e = absurd (Option·some-ne-none _ e)
