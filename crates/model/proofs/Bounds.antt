@@ -1,13 +1,13 @@
 -- Every verdict lies between 1 and 7, every field of a record fits its bytes, and the counts sum to 2^m.
 use mathlib.Core.Path.{_≡_, refl}
 use Prim.Native.Nat.{ℕ, zero, suc, _+_, _^_, _≤_, _<_}
-use mathlib.Core.Bool.{false, cond, _&&_}
+use mathlib.Core.Bool.{false, cond}
 use mathlib.Core.List.{List}
 use lib.ListN.{length, length-append}
-use lib.Dec.{eqb, ltb}
+use lib.Dec.{eqb}
 use lib.Pow.{pow-mono}
 use native.Mathlib.Omega.{arith}
-use borrow.Author.Tests.{ltb-true, leb-true}
+use borrow.Author.Tests.{leb-true}
 use Rattle.lists.specs.Scan.{countBelow}
 use Rattle.model.specs.Inputs.{N, flipFlopLine, F, L, inputsAt, Fault}
 use Rattle.model.specs.Values.{hasConflict, someOppose}
@@ -16,7 +16,7 @@ use Rattle.model.specs.Starts.{freeBits, startCount}
 use Rattle.model.specs.Sequences.{taken, ending, endOf, countEnding, endsSurviving, endsDiffering, endsClashing}
 use Rattle.model.specs.Grade.{placed, counted, grade}
 use Rattle.model.specs.Promises.{carriesCounts, InBounds}
-use Rattle.lists.proofs.Tests.{and-left, cond-cases, clash}
+use Rattle.lists.proofs.Tests.{cond-cases, clash}
 use Rattle.lists.proofs.Scan.{countBelow-bound}
 use Rattle.model.proofs.Runs.{flipFlopLine-holds}
 use Rattle.model.proofs.Pairs.{taken-all}

@@ -1,10 +1,10 @@
 -- A bit that stage 3 tries or stage 5 takes is X in the plain state. So its flip-flop's pin, which would show its value if it were stuck,
 -- sees a line at X.
-use mathlib.Core.Path.{_≡_, refl, sym, ap, _∙_}
+use mathlib.Core.Path.{_≡_, refl, _∙_}
 use Prim.Native.Nat.{ℕ, zero, suc, _≤_, _<_}
 use mathlib.Core.Bool.{Bool, true, false, cond}
 use mathlib.Core.List.{List, [], _∷_}
-use lib.ListN.{getD, length, replicate, List·getD-map}
+use lib.ListN.{getD, length, List·getD-map}
 use lib.Dec.{eqb}
 use native.Mathlib.Omega.{arith}
 use borrow.Author.Tests.{eqb-true, leb-true, leb-false, le-leb}

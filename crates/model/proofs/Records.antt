@@ -3,14 +3,13 @@ use mathlib.Core.Path.{_≡_, refl, ap, _∙_}
 use Prim.Native.Nat.{ℕ, suc, _+_, _*_, _/_, _%_, _≤_, _<_}
 use mathlib.Core.Bool.{true, false}
 use mathlib.Core.List.{List}
-use mathlib.Core.Option.{none}
+use mathlib.Core.Option.{none, orElse}
 use lib.ListN.{getD, length, take, drop, length-drop}
 use lib.Seq.{drop-append-le, take-append-le}
 use lib.Dec.{eqb, ltb}
 use borrow.Author.Tests.{eq-eqb, le-ltb}
 use native.Mathlib.Omega.{arith}
 use native.Mathlib.Nat.{mul-le-mul-left}
-use Rattle.lists.specs.Scan.{_else_}
 use Rattle.lists.specs.Field.{word16, bytes16, overwritten}
 use Rattle.model.specs.Inputs.{faultCount, faultAt}
 use Rattle.model.specs.Refusals.{refuse, row15, row14, gradeRefusal, groupRefusal, unlessRefused}
@@ -59,7 +58,7 @@ length-gradeBytes c t fs p k = length-gather (λ j. recordBytes (grade c t (faul
 
 -- Group takes any records that fit the program's area
 pub group-accepts : (vs : List ℕ) (n : ℕ) → length vs ≡ 16 * n → 16 * n ≤ 65536 → groupRefusal vs 65536 ≡ none
-unfolding groupRefusal row15 row14 refuse _else_
+unfolding groupRefusal row15 row14 refuse orElse
 group-accepts vs n e h =
     let whole : eqb (length vs % 16) 0 ≡ true = eq-eqb (length vs % 16) 0 (omega arith) in
     let short : ltb 524288 (length vs) ≡ false = le-ltb 524288 (length vs) (omega arith) in
