@@ -127,6 +127,16 @@ module _ (c t : List ℕ) (f : Fault) where
   abbrev meets : ℕ × ℕ → ℕ → List ℕ → Bool
   meets q u new = eqb (q .0) u && (overlaps new (extra c t f u (q .1) 0) || overlaps new (extra c t f u (q .1) 1))
 
+  -- a pair that does not touch others at its unit overlaps neither extra of any of them
+  untouched : (q : ℕ × ℕ) (pairs : List (ℕ × ℕ)) (u i α : ℕ) → touches c t f (q ∷ pairs) u (extra c t f u i α) ≡ false → u ≡ q .0
+      → (overlaps (extra c t f (q .0) (q .1) 0) (extra c t f (q .0) i α) ≡ false)
+      × (overlaps (extra c t f (q .0) (q .1) 1) (extra c t f (q .0) i α) ≡ false)
+  unfolding touches
+  untouched q pairs u i α h e =
+      let both : overlaps (extra c t f (q .0) i α) (extra c t f (q .0) (q .1) 0) || overlaps (extra c t f (q .0) i α) (extra c t f (q .0) (q .1) 1) ≡ false =
+      rw e at (and-fails _ _ (or-left-false (meets q u (extra c t f u i α)) _ h) (eq-eqb (q .0) u (sym e))) in
+      (overlaps-sym _ (extra c t f (q .0) i α) ∙ or-left-false _ _ both, overlaps-sym _ (extra c t f (q .0) i α) ∙ or-right-false (overlaps (extra c t f (q .0) i α) (extra c t f (q .0) (q .1) 0)) _ both)
+
   -- new is apart from what a sequence has of these pairs
   touches-sequence : (pairs : List (ℕ × ℕ)) (b u : ℕ) (new : List ℕ) → touches c t f pairs u new ≡ false
       → overlaps new (sequenceRow c t f pairs b u) ≡ false
@@ -159,15 +169,6 @@ module _ (c t : List ℕ) (f : Fault) where
   Apart [] = Unit {0}
   Apart (q ∷ pairs) =
       (touches c t f pairs (q .0) (extra c t f (q .0) (q .1) 0) ≡ false) × (touches c t f pairs (q .0) (extra c t f (q .0) (q .1) 1) ≡ false) × Apart pairs
-
-  untouched : (q : ℕ × ℕ) (pairs : List (ℕ × ℕ)) (u i α : ℕ) → touches c t f (q ∷ pairs) u (extra c t f u i α) ≡ false → u ≡ q .0
-      → (overlaps (extra c t f (q .0) (q .1) 0) (extra c t f (q .0) i α) ≡ false)
-      × (overlaps (extra c t f (q .0) (q .1) 1) (extra c t f (q .0) i α) ≡ false)
-  unfolding touches
-  untouched q pairs u i α h e =
-      let both : overlaps (extra c t f (q .0) i α) (extra c t f (q .0) (q .1) 0) || overlaps (extra c t f (q .0) i α) (extra c t f (q .0) (q .1) 1) ≡ false =
-      rw e at (and-fails _ _ (or-left-false (meets q u (extra c t f u i α)) _ h) (eq-eqb (q .0) u (sym e))) in
-      (overlaps-sym _ (extra c t f (q .0) i α) ∙ or-left-false _ _ both, overlaps-sym _ (extra c t f (q .0) i α) ∙ or-right-false (overlaps (extra c t f (q .0) i α) (extra c t f (q .0) (q .1) 0)) _ both)
 
   apart-more : (pairs : List (ℕ × ℕ)) (u i : ℕ) → touches c t f pairs u (extra c t f u i 0) ≡ false → touches c t f pairs u (extra c t f u i 1) ≡ false
       → Apart pairs → Apart (pairs ++ ((u, i) ∷ []))

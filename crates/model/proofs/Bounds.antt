@@ -9,9 +9,8 @@ use lib.Pow.{pow-mono}
 use native.Mathlib.Omega.{arith}
 use borrow.Author.Tests.{leb-true}
 use Rattle.lists.specs.Scan.{countBelow}
-use Rattle.model.specs.Inputs.{N, flipFlopLine, F, L, inputsAt, Fault}
+use Rattle.model.specs.Inputs.{N, flipFlopLine, F, L, Fault}
 use Rattle.model.specs.Values.{hasConflict, someOppose}
-use Rattle.model.specs.Simulation.{lineValues, outputs, freeOutputs}
 use Rattle.model.specs.Starts.{freeBits, startCount}
 use Rattle.model.specs.Sequences.{taken, ending, endOf, countEnding, endsSurviving, endsDiffering, endsClashing}
 use Rattle.model.specs.Grade.{placed, counted, grade}
@@ -28,7 +27,7 @@ module _ (c t : List ℕ) (f : Fault) where
   unfolding ending
   ending-bound pairs b u zero state = omega arith
   ending-bound pairs b u (suc left) state =
-      cond-cases (λ (e : ℕ). e ≤ 2) (someOppose (freeOutputs c t u) (outputs c f (lineValues c f (inputsAt c t u) state))) endsDiffering _
+      cond-cases (λ (e : ℕ). e ≤ 2) (someOppose _ _) endsDiffering _
       (λ _. omega arith)
       (λ _. cond-cases (λ (e : ℕ). e ≤ 2) (hasConflict _) endsClashing _ (λ _. omega arith) (λ _. ending-bound pairs b (suc u) left _))
 
@@ -93,9 +92,9 @@ module _ (c t : List ℕ) (f : Fault) where
         m = omega arith;
         time = omega arith;
         line = omega arith;
-        differing = count-bound pairs endsDiffering k n l;
-        clashing = count-bound pairs endsClashing k n l;
-        surviving = count-bound pairs endsSurviving k n l;
+        differing = count-bound pairs _ k n l;
+        clashing = count-bound pairs _ k n l;
+        surviving = count-bound pairs _ k n l;
         start = h;
         sum = λ _. endings-sum pairs;
       }

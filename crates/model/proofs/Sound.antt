@@ -247,7 +247,7 @@ module _ (c t : List ℕ) (f : Fault) (a : FaultJob c t f) where
           (λ g. sequenceRow-allows pairs (suc u) n (ltb-true _ _ g)) (λ _. nothing-allows (suc u) (omega arith)) in
           let m : AllowsRow (giveRow (nextState c f (lineValues c f (inputsAt c t u) now)) _) (stateAt c t f st (suc u)) =
           giveRow-allows _ _ _ (next-step u _ v) row in
-          rw (no-opposing u _ (omega arith) v, no-conflict _ _ m) (ending-survives pairs n left (suc u) _ (omega arith) m)
+          rw (no-conflict _ _ m, no-opposing u _ (omega arith) v) (ending-survives pairs n left (suc u) _ (omega arith) m)
 
       some-survives : (pairs : List (ℕ × ℕ)) → Named c t pairs → eqb (countEnding c t f pairs endsSurviving) 0 ≡ true → ⊥
       unfolding countEnding endOf
