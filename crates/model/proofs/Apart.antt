@@ -111,16 +111,16 @@ set-at (x ∷ row) zero a (suc m) h k = h (suc m)
 set-at (x ∷ row) (suc i) a zero h k = h 0
 set-at (x ∷ row) (suc i) a (suc m) h k = set-at row i a m (λ j. h (suc j)) k
 
-unconflicted : (row : List ℕ) (m : ℕ) → hasConflict row ≡ false → getD row m X ≤ 2
+clear-three : (row : List ℕ) (m : ℕ) → hasConflict row ≡ false → getD row m X ≤ 2
 unfolding hasConflict
-unconflicted [] m e = omega arith
-unconflicted (a ∷ row) zero e = omega (arith, leb-false 3 a (or-left-false _ (hasConflict row) e))
-unconflicted (a ∷ row) (suc m) e = unconflicted row m (or-right-false (leb 3 a) _ e)
+clear-three [] m e = omega arith
+clear-three (a ∷ row) zero e = omega (arith, leb-false 3 a (or-left-false _ (hasConflict row) e))
+clear-three (a ∷ row) (suc m) e = clear-three row m (or-right-false (leb 3 a) _ e)
 
-no-conflict : (row : List ℕ) → ((m : ℕ) → getD row m X ≤ 2) → hasConflict row ≡ false
+three-clear : (row : List ℕ) → ((m : ℕ) → getD row m X ≤ 2) → hasConflict row ≡ false
 unfolding hasConflict
-no-conflict [] h = refl
-no-conflict (a ∷ row) h = rw (lt-leb 3 a (omega (arith, h 0))) (no-conflict row (λ m. h (suc m)))
+three-clear [] h = refl
+three-clear (a ∷ row) h = rw (lt-leb 3 a (omega (arith, h 0))) (three-clear row (λ m. h (suc m)))
 
 module _ (c t : List ℕ) (f : Fault) where
   -- ---- the pairs taken
@@ -192,7 +192,7 @@ module _ (c t : List ℕ) (f : Fault) where
 
     unmarked-three : (u i α : ℕ) → marked c t f (suc u) i α ≡ false → ThreeValued (impliedAt c t f u i α)
     unfolding marked
-    unmarked-three u i α e = record { at = λ m. unconflicted (impliedAt c t f u i α) m (or-left-false (hasConflict (impliedAt c t f u i α)) _ e) }
+    unmarked-three u i α e = record { at = λ m. clear-three (impliedAt c t f u i α) m (or-left-false (hasConflict (impliedAt c t f u i α)) _ e) }
 
     extra-three : (u i α : ℕ) → α ≤ 1 → ThreeValued (extra c t f u i α)
     unfolding extra
@@ -230,4 +230,4 @@ module _ (c t : List ℕ) (f : Fault) where
     pub sequence-clear : stage4 c t f ≡ none → (p : List ℕ) (k b u : ℕ) → u < L c t → hasConflict (sequenceRow c t f (taken c t f p k) b u) ≡ false
     unfolding stateRow
     sequence-clear e p k b u h =
-        no-conflict _ (sequence-three (taken c t f p k) b u (rowAfter-three u (F c) (λ i l. unopposed e u i h l)) (taken-apart p k) .at)
+        three-clear _ (sequence-three (taken c t f p k) b u (rowAfter-three u (F c) (λ i l. unopposed e u i h l)) (taken-apart p k) .at)
