@@ -205,22 +205,22 @@ faultJob {t = t} valid j h = record {
 }
 
 -- ---- plan, k and the two areas
-plan-fits : (p : List ℕ) → row11 p ≡ none → (length p ≡ 4 * planCount p) × (planCount p ≤ 4096)
+pub plan-fits : (p : List ℕ) → row11 p ≡ none → (length p ≡ 4 * planCount p) × (planCount p ≤ 4096)
 unfolding row11 planCount
 plan-fits p e =
     let size : not (eqb (length p % 4) 0) || ltb 4096 (length p / 4) ≡ false = refuse-none _ 11 0 e in
     let whole : length p % 4 ≡ 0 = eqb-true _ _ (not-false _ (or-left-false _ _ size)) in
     (omega arith, ltb-false 4096 _ (or-right-false (not (eqb (length p % 4) 0)) _ size))
 
-k-fits : (k : ℕ) → row12 k ≡ none → k ≤ 12
+pub k-fits : (k : ℕ) → row12 k ≡ none → k ≤ 12
 unfolding row12
 k-fits k e = ltb-false 12 k (refuse-none _ 12 0 e)
 
-work-fits : (c t : List ℕ) (work : ℕ) → row13 c t work ≡ none → workBytes c t ≤ work
+pub work-fits : (c t : List ℕ) (work : ℕ) → row13 c t work ≡ none → workBytes c t ≤ work
 unfolding row13
 work-fits c t work e = ltb-false work _ (refuse-none _ 13 0 e)
 
-result-fits : (size result : ℕ) → row14 size result ≡ none → size ≤ result
+pub result-fits : (size result : ℕ) → row14 size result ≡ none → size ≤ result
 unfolding row14
 result-fits size result e = ltb-false result size (refuse-none _ 14 0 e)
 
