@@ -3,49 +3,39 @@ use mathlib.Core.Path.{_≡_, refl, ap, _∙_}
 use Prim.Native.Nat.{ℕ, zero, suc, _+_, _*_, _≤_, _<_}
 use mathlib.Core.Bool.{Bool, true, false, cond}
 use mathlib.Core.List.{List, [], _∷_, _++_, map}
-use mathlib.Core.Option.{Option, none, some, Option·some-injective, Option·none-ne-some, Option·some-ne-none}
+use mathlib.Core.Option.{Option, none, some, Option·getD, orElse, Option·some-injective, Option·none-ne-some, Option·some-ne-none}
+use mathlib.Mathlib.Data.Option.Basic.{orElse-eq-none}
 use lib.ListN.{getD, length, take, drop, length-append, length-drop}
 use lib.Seq.{take-all, drop-at, drop-append-le, take-append-le}
 use native.Mathlib.Omega.{arith}
 use native.Mathlib.Decide.{decLe}
 use native.Mathlib.Nat.{mul-le-mul-left, mul-suc}
 use native.Mathlib.Numerals.{add-one}
-use Rattle.lists.specs.Scan.{_else_, orGiven, first, pairWith, firstPair, firstAnswer, anyBelow, countBelow, select, tabulate, gather}
+use Rattle.lists.specs.Scan.{_else_, first, pairWith, firstPair, firstAnswer, anyBelow, countBelow, select, tabulate, gather}
 use Rattle.lists.proofs.Tests.{or-left-false, or-right-false, cond-cases, clash, is-true}
 
 -- ---- the first answer
 pub else-some {ℓ} : {A : Type 0} {B : Type ℓ} (a b : Option A) (m : A) → a else b ≡ some m → (a ≡ some m → B) → (a ≡ none → b ≡ some m → B) → B
-unfolding _else_
+unfolding orElse
 else-some none b m e f g = g refl e
 else-some (some a) b m e f g = f e
 
-pub else-none : {A : Type 0} (a b : Option A) → a else b ≡ none → (a ≡ none) × (b ≡ none)
-unfolding _else_
-else-none none b e = (refl, e)
-else-none (some a) b e = absurd (Option·some-ne-none a e)
-
-pub else-is-none : {A : Type 0} (a b : Option A) → a ≡ none → b ≡ none → a else b ≡ none
-unfolding _else_
-else-is-none none b e h = h
-else-is-none (some a) b e h = absurd (Option·some-ne-none a e)
-
 pub else-assoc : {A : Type 0} (a b d : Option A) → (a else b) else d ≡ a else (b else d)
-unfolding _else_
+unfolding orElse
 else-assoc none b d = refl
 else-assoc (some a) b d = refl
 
 pub else-found : {A : Type 0} (a b : Option A) (m : A) → a ≡ some m → a else b ≡ some m
-unfolding _else_
+unfolding orElse
 else-found none b m e = absurd (Option·none-ne-some m e)
 else-found (some a) b m e = e
 
 pub else-skips : {A : Type 0} (a b : Option A) → a ≡ none → a else b ≡ b
-unfolding _else_
+unfolding orElse
 else-skips none b e = refl
 else-skips (some a) b e = absurd (Option·some-ne-none a e)
 
-pub given-cases {ℓ} : {A : Type 0} (P : A → Type ℓ) (o : Option A) (a : A) → ((m : A) → o ≡ some m → P m) → (o ≡ none → P a) → P (orGiven o a)
-unfolding orGiven
+pub given-cases {ℓ} : {A : Type 0} (P : A → Type ℓ) (o : Option A) (a : A) → ((m : A) → o ≡ some m → P m) → (o ≡ none → P a) → P (Option·getD o a)
 given-cases P none a f g = g refl
 given-cases P (some m) a f g = f m refl
 
@@ -53,7 +43,7 @@ pub firstAnswer-none : {A : Type 0} (g : ℕ → Option A) (n m : ℕ) → first
 unfolding firstAnswer
 firstAnswer-none g zero m e h = absurd (let z : ⊥ = omega arith in z)
 firstAnswer-none g (suc n) m e h =
-    let d : (firstAnswer g n ≡ none) × (g n ≡ none) = else-none (firstAnswer g n) (g n) e in
+    let d : (firstAnswer g n ≡ none) × (g n ≡ none) = orElse-eq-none (firstAnswer g n) (g n) .0 e in
     elim (decLe (suc m) n) [ yes q ↦ firstAnswer-none g n m (d .0) q | no q ↦ (let r : m ≡ n = omega arith in rw r (d .1)) ]
 
 -- ---- the lowest number
@@ -69,7 +59,7 @@ pub first-none : (P : ℕ → Bool) (n m : ℕ) → first P n ≡ none → m < n
 unfolding first
 first-none P zero m e h = absurd (let z : ⊥ = omega arith in z)
 first-none P (suc n) m e h =
-    let d : (first P n ≡ none) × (cond (P n) (some n) none ≡ none) = else-none (first P n) _ e in
+    let d : (first P n ≡ none) × (cond (P n) (some n) none ≡ none) = orElse-eq-none (first P n) _ .0 e in
     elim (decLe (suc m) n) [
       | yes g ↦ first-none P n m (d .0) g
       | no g ↦ (let q : m ≡ n = omega arith in rw q (cond-none (P n) n (d .1)))
@@ -124,7 +114,7 @@ pub firstPair-none : (P : ℕ → ℕ → Bool) (a b u i : ℕ) → firstPair P 
 unfolding firstPair
 firstPair-none P zero b u i e h k = absurd (let z : ⊥ = omega arith in z)
 firstPair-none P (suc a) b u i e h k =
-    let d : (firstPair P a b ≡ none) × (pairWith a (first (P a) b) ≡ none) = else-none (firstPair P a b) _ e in
+    let d : (firstPair P a b ≡ none) × (pairWith a (first (P a) b) ≡ none) = orElse-eq-none (firstPair P a b) _ .0 e in
     elim (decLe (suc u) a) [
       | yes g ↦ firstPair-none P a b u i (d .0) g k
       | no g ↦ (let q : u ≡ a = omega arith in rw q (first-none (P a) b i (pairWith-none a _ (d .1)) k))
@@ -251,11 +241,11 @@ module _ {A : Type 0} (g : ℕ → List A) (size : ℕ) (each : (j : ℕ) → le
 module _ {A : Type 0} (g : ℕ → Option A) where
   pub firstAnswer-turn : (n : ℕ) → firstAnswer g n ≡ none → g n ≡ none → firstAnswer g (n + 1) ≡ none
   unfolding firstAnswer
-  firstAnswer-turn n e h = rw add-one (else-is-none (firstAnswer g n) (g n) e h)
+  firstAnswer-turn n e h = rw add-one (orElse-eq-none (firstAnswer g n) (g n) .1 (e, h))
 
   -- the loop is left at the first answer
   pub firstAnswer-stop : (n m : ℕ) (a : A) → firstAnswer g n ≡ none → g n ≡ some a → n < m → firstAnswer g m ≡ some a
-  unfolding firstAnswer _else_
+  unfolding firstAnswer orElse
   firstAnswer-stop n zero a e h l = absurd (let z : ⊥ = omega arith in z)
   firstAnswer-stop n (suc m) a e h l = elim (decLe (suc n) m) [
     | yes q ↦ rw (firstAnswer-stop n m a e h q)

@@ -26,6 +26,9 @@ pub or-right-false : (s t : Bool) → s || t ≡ false → t ≡ false
 or-right-false true t e = absurd (true≢false e)
 or-right-false false t e = e
 
+pub or-is-false : (s t : Bool) → s ≡ false → t ≡ false → s || t ≡ false
+or-is-false s t h k = rw h k
+
 pub or-cases {ℓ} : {A : Type ℓ} (s t : Bool) → s || t ≡ true → (s ≡ true → A) → (t ≡ true → A) → A
 or-cases true t e f g = f refl
 or-cases false t e f g = g e

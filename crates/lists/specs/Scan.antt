@@ -3,18 +3,12 @@
 use Prim.Native.Nat.{ℕ, zero, suc, _+_}
 use mathlib.Core.Bool.{Bool, false, cond, _||_}
 use mathlib.Core.List.{List, [], _∷_, _++_}
-use mathlib.Core.Option.{Option, none, some}
+use mathlib.Core.Option.{Option, none, some, orElse}
 
 infixr 20 _else_
 -- the first, or where it is none the second
-unfoldable pub _else_ : {A : Type 0} → Option A → Option A → Option A
-_else_ none b = b
-_else_ (some a) b = some a
-
--- what the option holds, or the given value
-unfoldable pub orGiven : {A : Type 0} → Option A → A → A
-orGiven none a = a
-orGiven (some b) a = b
+abbrev pub _else_ : {A : Type 0} → Option A → Option A → Option A
+_else_ a b = orElse a b
 
 -- the lowest number below n that passes
 unfoldable pub first : (ℕ → Bool) → ℕ → Option ℕ

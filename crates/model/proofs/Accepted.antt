@@ -4,6 +4,7 @@ use Prim.Native.Nat.{ℕ, zero, suc, _+_, _*_, _/_, _%_, _≤_, _<_}
 use mathlib.Core.Bool.{Bool, true, false, cond, not, _&&_, _||_, true≢false}
 use mathlib.Core.List.{List, [], _∷_}
 use mathlib.Core.Option.{none, some, Option·some-ne-none}
+use mathlib.Mathlib.Data.Option.Basic.{orElse-eq-none}
 use lib.ListN.{getD, length}
 use lib.Dec.{eqb, leb, ltb}
 use native.Mathlib.Omega.{arith}
@@ -15,7 +16,7 @@ use Rattle.model.specs.Inputs.{N, kind, pinCount, pinLine, isFlipFlop, i
 use Rattle.model.specs.Refusals.{refuse, row1, pinsFit, strayBytes, misnamed, misnames, rows2to5, row6, circuitRows, row7, row8, row9, faultFits, row10, row11, row12, row15, workBytes, row13, row14, inputRows, simulateRefusal, gradeRefusal, chooseRefusal, groupRefusal}
 use Rattle.model.specs.Accepted.{ValidCircuit, ValidTest, ValidFault, ValidInputs, SimulateReady, GradeReady, ChooseReady, GroupReady}
 use Rattle.lists.proofs.Tests.{and-left, and-right, or-left-false, or-right-false}
-use Rattle.lists.proofs.Scan.{else-none, firstAnswer-none, anyBelow-false}
+use Rattle.lists.proofs.Scan.{firstAnswer-none, anyBelow-false}
 use Rattle.model.proofs.Total.{TotalRow, bit-total}
 use Rattle.model.proofs.Implication.{gate-kind}
 use Rattle.model.proofs.Sound.{FaultJob}
@@ -34,9 +35,9 @@ record Fits (c : List ℕ) (n : ℕ) : Type 0 where
 fits : (c : List ℕ) (n : ℕ) → rows2to5 c n ≡ none → Fits c n
 unfolding rows2to5
 fits c n e =
-    let a = else-none (refuse (ltb 9 (kind c n)) 2 n) _ e in
-    let b = else-none (refuse (not (pinsFit (kind c n) (pinCount c n))) 3 n) _ (a .1) in
-    let d = else-none (refuse (strayBytes c n) 4 n) _ (b .1) in
+    let a = orElse-eq-none (refuse (ltb 9 (kind c n)) 2 n) _ .0 e in
+    let b = orElse-eq-none (refuse (not (pinsFit (kind c n) (pinCount c n))) 3 n) _ .0 (a .1) in
+    let d = orElse-eq-none (refuse (strayBytes c n) 4 n) _ .0 (b .1) in
     record {
       low = ltb-false 9 (kind c n) (refuse-none _ 2 n (a .0));
       count = not-false _ (refuse-none _ 3 n (b .0));
@@ -99,8 +100,8 @@ line-limit c h = omega arith
 pub validCircuit : (c : List ℕ) → circuitRows c ≡ none → ValidCircuit c
 unfolding circuitRows row1 row6
 validCircuit c e =
-    let a = else-none (row1 c) _ e in
-    let b = else-none (firstAnswer (λ n. rows2to5 c n) (N c)) _ (a .1) in
+    let a = orElse-eq-none (row1 c) _ .0 e in
+    let b = orElse-eq-none (firstAnswer (λ n. rows2to5 c n) (N c)) _ .0 (a .1) in
     let size : eqb (length c) 0 || not (eqb (length c % 12) 0) || ltb 49152 (length c) ≡ false = refuse-none _ 1 0 (a .0) in
     let short : length c ≤ 49152 = ltb-false 49152 (length c) (or-right-false (eqb (length c) 0 || not (eqb (length c % 12) 0)) _ size) in
     let ends : eqb (I c) 0 || eqb (O c) 0 || ltb 256 (I c) || ltb 256 (F c) || ltb 256 (O c) ≡ false = refuse-none _ 6 0 (b .1) in
@@ -179,10 +180,10 @@ fault-bytes fs e = omega arith
 pub validInputs : (c t : List ℕ) (least most : ℕ) (fs : List ℕ) → inputRows c t least most fs ≡ none → ValidInputs c t least most fs
 unfolding inputRows row9
 validInputs c t least most fs e =
-    let a = else-none (circuitRows c) _ e in
-    let b = else-none (row7 c t) _ (a .1) in
-    let d = else-none (row8 t) _ (b .1) in
-    let g = else-none (row9 least most fs) _ (d .1) in
+    let a = orElse-eq-none (circuitRows c) _ .0 e in
+    let b = orElse-eq-none (row7 c t) _ .0 (a .1) in
+    let d = orElse-eq-none (row8 t) _ .0 (b .1) in
+    let g = orElse-eq-none (row9 least most fs) _ .0 (d .1) in
     let size : not (eqb (length fs % 4) 0) || ltb (faultCount fs) least || ltb most (faultCount fs) ≡ false = refuse-none _ 9 0 (g .0) in
     let low : not (eqb (length fs % 4) 0) || ltb (faultCount fs) least ≡ false = or-left-false _ _ size in
     record {
@@ -204,22 +205,22 @@ faultJob {t = t} valid j h = record {
 }
 
 -- ---- plan, k and the two areas
-plan-fits : (p : List ℕ) → row11 p ≡ none → (length p ≡ 4 * planCount p) × (planCount p ≤ 4096)
+pub plan-fits : (p : List ℕ) → row11 p ≡ none → (length p ≡ 4 * planCount p) × (planCount p ≤ 4096)
 unfolding row11 planCount
 plan-fits p e =
     let size : not (eqb (length p % 4) 0) || ltb 4096 (length p / 4) ≡ false = refuse-none _ 11 0 e in
     let whole : length p % 4 ≡ 0 = eqb-true _ _ (not-false _ (or-left-false _ _ size)) in
     (omega arith, ltb-false 4096 _ (or-right-false (not (eqb (length p % 4) 0)) _ size))
 
-k-fits : (k : ℕ) → row12 k ≡ none → k ≤ 12
+pub k-fits : (k : ℕ) → row12 k ≡ none → k ≤ 12
 unfolding row12
 k-fits k e = ltb-false 12 k (refuse-none _ 12 0 e)
 
-work-fits : (c t : List ℕ) (work : ℕ) → row13 c t work ≡ none → workBytes c t ≤ work
+pub work-fits : (c t : List ℕ) (work : ℕ) → row13 c t work ≡ none → workBytes c t ≤ work
 unfolding row13
 work-fits c t work e = ltb-false work _ (refuse-none _ 13 0 e)
 
-result-fits : (size result : ℕ) → row14 size result ≡ none → size ≤ result
+pub result-fits : (size result : ℕ) → row14 size result ≡ none → size ≤ result
 unfolding row14
 result-fits size result e = ltb-false result size (refuse-none _ 14 0 e)
 
@@ -227,17 +228,17 @@ result-fits size result e = ltb-false result size (refuse-none _ 14 0 e)
 pub simulateReady : (c t fs : List ℕ) (work result : ℕ) → simulateRefusal c t fs work result ≡ none → SimulateReady c t fs work result
 unfolding simulateRefusal
 simulateReady c t fs work result e =
-    let a = else-none (inputRows c t 0 1 fs) _ e in
-    let b = else-none (row13 c t work) _ (a .1) in
+    let a = orElse-eq-none (inputRows c t 0 1 fs) _ .0 e in
+    let b = orElse-eq-none (row13 c t work) _ .0 (a .1) in
     record { inputs = validInputs c t 0 1 fs (a .0); workRoom = work-fits c t work (b .0); resultRoom = result-fits _ result (b .1) }
 
 pub gradeReady : (c t fs p : List ℕ) (k work result : ℕ) → gradeRefusal c t fs p k work result ≡ none → GradeReady c t fs p k work result
 unfolding gradeRefusal
 gradeReady c t fs p k work result e =
-    let a = else-none (inputRows c t 0 32768 fs) _ e in
-    let b = else-none (row11 p) _ (a .1) in
-    let d = else-none (row12 k) _ (b .1) in
-    let g = else-none (row13 c t work) _ (d .1) in
+    let a = orElse-eq-none (inputRows c t 0 32768 fs) _ .0 e in
+    let b = orElse-eq-none (row11 p) _ .0 (a .1) in
+    let d = orElse-eq-none (row12 k) _ .0 (b .1) in
+    let g = orElse-eq-none (row13 c t work) _ .0 (d .1) in
     record {
       inputs = validInputs c t 0 32768 fs (a .0);
       plan = plan-fits p (b .0) .0;
@@ -250,9 +251,9 @@ gradeReady c t fs p k work result e =
 pub chooseReady : (c t fs : List ℕ) (k work result : ℕ) → chooseRefusal c t fs k work result ≡ none → ChooseReady c t fs k work result
 unfolding chooseRefusal
 chooseReady c t fs k work result e =
-    let a = else-none (inputRows c t 1 1 fs) _ e in
-    let b = else-none (row12 k) _ (a .1) in
-    let d = else-none (row13 c t work) _ (b .1) in
+    let a = orElse-eq-none (inputRows c t 1 1 fs) _ .0 e in
+    let b = orElse-eq-none (row12 k) _ .0 (a .1) in
+    let d = orElse-eq-none (row13 c t work) _ .0 (b .1) in
     record {
       inputs = validInputs c t 1 1 fs (a .0);
       limit = k-fits k (b .0);
@@ -263,7 +264,7 @@ chooseReady c t fs k work result e =
 pub groupReady : (vs : List ℕ) (result : ℕ) → groupRefusal vs result ≡ none → GroupReady vs result
 unfolding groupRefusal row15
 groupReady vs result e =
-    let a = else-none (row15 vs) _ e in
+    let a = orElse-eq-none (row15 vs) _ .0 e in
     let size : not (eqb (length vs % 16) 0) || ltb 524288 (length vs) ≡ false = refuse-none _ 15 0 (a .0) in
     let whole : length vs % 16 ≡ 0 = eqb-true _ _ (not-false _ (or-left-false _ _ size)) in
     record {

@@ -12,7 +12,7 @@ use Rattle.model.specs.Inputs.{F, L, Fault}
 use Rattle.model.specs.Expansion.{nsv, nout}
 use Rattle.model.specs.Sequences.{takes}
 use Rattle.model.specs.Choose.{larger, smaller, smallerExtra, largerExtra, better, bestOf, bestAt, bestBelow, nextPair}
-use Rattle.model.proofs.Sound.{takes-named}
+use Rattle.model.proofs.Pairs.{Takeable, takeable}
 
 -- ---- one criterion
 larger-more : (a b : ℕ) (rest : Bool) → b < a → larger a b rest ≡ true
@@ -117,15 +117,15 @@ module _ (c t : List ℕ) (f : Fault) where
       → better c t f v j (q .0) (q .1) ≡ false
   unfolding nextPair Beaten
   nextPair-best pairs q e v j h =
-      let r : (v < L c t) × (j < F c) = takes-named c t f pairs v j h in
-      subst (λ (o : Option (ℕ × ℕ)). Beaten pairs o v j) e (bestBelow-beats pairs (L c t) v j (r .0) (r .1)) h
+      let r : Takeable c t f pairs v j = takeable c t f pairs v j h in
+      subst (λ (o : Option (ℕ × ℕ)). Beaten pairs o v j) e (bestBelow-beats pairs (L c t) v j (r .unit) (r .bit)) h
 
   -- there is no next pair only where none could be taken
   pub nextPair-none : (pairs : List (ℕ × ℕ)) → nextPair c t f pairs ≡ none → (v j : ℕ) → takes c t f pairs v j ≡ false
   unfolding nextPair Beaten
   nextPair-none pairs e v j = is-false _ (λ h.
-      let r : (v < L c t) × (j < F c) = takes-named c t f pairs v j h in
-      clash _ h (subst (λ (o : Option (ℕ × ℕ)). Beaten pairs o v j) e (bestBelow-beats pairs (L c t) v j (r .0) (r .1))))
+      let r : Takeable c t f pairs v j = takeable c t f pairs v j h in
+      clash _ h (subst (λ (o : Option (ℕ × ℕ)). Beaten pairs o v j) e (bestBelow-beats pairs (L c t) v j (r .unit) (r .bit))))
 
   -- ---- the next pair can be taken
   Taking : List (ℕ × ℕ) → Option (ℕ × ℕ) → Type 0

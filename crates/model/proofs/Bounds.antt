@@ -1,24 +1,24 @@
 -- Every verdict lies between 1 and 7, every field of a record fits its bytes, and the counts sum to 2^m.
 use mathlib.Core.Path.{_≡_, refl}
 use Prim.Native.Nat.{ℕ, zero, suc, _+_, _^_, _≤_, _<_}
-use mathlib.Core.Bool.{false, cond, _&&_}
+use mathlib.Core.Bool.{false, cond}
 use mathlib.Core.List.{List}
 use lib.ListN.{length, length-append}
-use lib.Dec.{eqb, ltb}
+use lib.Dec.{eqb}
 use lib.Pow.{pow-mono}
 use native.Mathlib.Omega.{arith}
-use borrow.Author.Tests.{ltb-true, leb-true}
+use borrow.Author.Tests.{leb-true}
 use Rattle.lists.specs.Scan.{countBelow}
-use Rattle.model.specs.Inputs.{N, flipFlopLine, F, L, inputsAt, Fault, planCount, planPair}
+use Rattle.model.specs.Inputs.{N, flipFlopLine, F, L, Fault}
 use Rattle.model.specs.Values.{hasConflict, someOppose}
-use Rattle.model.specs.Simulation.{lineValues, outputs, freeOutputs}
 use Rattle.model.specs.Starts.{freeBits, startCount}
-use Rattle.model.specs.Sequences.{takes, takeNext, takenOf, taken, ending, endOf, countEnding, endsSurviving, endsDiffering, endsClashing}
+use Rattle.model.specs.Sequences.{taken, ending, endOf, countEnding, endsSurviving, endsDiffering, endsClashing}
 use Rattle.model.specs.Grade.{placed, counted, grade}
 use Rattle.model.specs.Promises.{carriesCounts, InBounds}
-use Rattle.lists.proofs.Tests.{and-left, cond-cases, clash}
+use Rattle.lists.proofs.Tests.{cond-cases, clash}
 use Rattle.lists.proofs.Scan.{countBelow-bound}
 use Rattle.model.proofs.Runs.{flipFlopLine-holds}
+use Rattle.model.proofs.Pairs.{taken-all}
 use Rattle.model.proofs.Stages.{before-case, after-case, grade-cases}
 
 -- ---- a sequence ends in one of three ways
@@ -27,7 +27,7 @@ module _ (c t : List ℕ) (f : Fault) where
   unfolding ending
   ending-bound pairs b u zero state = omega arith
   ending-bound pairs b u (suc left) state =
-      cond-cases (λ (e : ℕ). e ≤ 2) (someOppose (freeOutputs c t u) (outputs c f (lineValues c f (inputsAt c t u) state))) endsDiffering _
+      cond-cases (λ (e : ℕ). e ≤ 2) (someOppose _ _) endsDiffering _
       (λ _. omega arith)
       (λ _. cond-cases (λ (e : ℕ). e ≤ 2) (hasConflict _) endsClashing _ (λ _. omega arith) (λ _. ending-bound pairs b (suc u) left _))
 
@@ -53,21 +53,8 @@ module _ (c t : List ℕ) (f : Fault) where
   endings-sum pairs = counts-sum (λ b. endOf c t f pairs b) (λ b. endOf-bound pairs b) (2 ^ length pairs)
 
   -- ---- no more than k pairs are taken
-  takenOf-bound : (p : List ℕ) (k n : ℕ) → length (takenOf c t f p k n) ≤ k
-  unfolding takenOf takeNext
-  takenOf-bound p k zero = omega arith
-  takenOf-bound p k (suc n) =
-      let pairs = takenOf c t f p k n in
-      let q = planPair p n in
-      cond-cases (λ (qs : List (ℕ × ℕ)). length qs ≤ k) (ltb (length pairs) k && takes c t f pairs (q .0) (q .1)) _ pairs
-      (λ e.
-      let room : length pairs < k = ltb-true (length pairs) k (and-left _ _ e) in
-      rw length-append (omega arith))
-      (λ _. takenOf-bound p k n)
-
-  pub taken-bound : (p : List ℕ) (k : ℕ) → length (taken c t f p k) ≤ k
-  unfolding taken
-  taken-bound p k = takenOf-bound p k (planCount p)
+  taken-bound : (p : List ℕ) (k : ℕ) → length (taken c t f p k) ≤ k
+  taken-bound p k = taken-all c t f p k (λ pairs. length pairs ≤ k) (omega arith) (λ pairs u i h _ _. rw length-append (omega arith))
 
   power-bound : (n k : ℕ) → n ≤ k → k ≤ 12 → 2 ^ n ≤ 4096
   power-bound n k h l = pow-mono {i = n} {j = 12} (omega arith)
@@ -105,9 +92,9 @@ module _ (c t : List ℕ) (f : Fault) where
         m = omega arith;
         time = omega arith;
         line = omega arith;
-        differing = count-bound pairs endsDiffering k n l;
-        clashing = count-bound pairs endsClashing k n l;
-        surviving = count-bound pairs endsSurviving k n l;
+        differing = count-bound pairs _ k n l;
+        clashing = count-bound pairs _ k n l;
+        surviving = count-bound pairs _ k n l;
         start = h;
         sum = λ _. endings-sum pairs;
       }

@@ -18,7 +18,7 @@ use Rattle.model.specs.Grade.{Verdict, beforeStage5, placed, counted, gr
 use Rattle.model.specs.Choose.{nextPair, withPair, bestPairs, unlessDecided, chosen, planBytes}
 use Rattle.model.specs.Promises.{WellChosen}
 use Rattle.lists.proofs.Field.{word-back}
-use Rattle.model.proofs.Sound.{takes-named}
+use Rattle.model.proofs.Pairs.{Takeable, takeable}
 use Rattle.model.proofs.Stages.{before-case, after-case, grade-cases}
 use Rattle.model.proofs.Best.{nextPair-best, nextPair-none, nextPair-takes}
 
@@ -105,7 +105,7 @@ module _ (c t : List ℕ) (f : Fault) where
   chain-fields : (pairs : List (ℕ × ℕ)) → L c t ≤ 65536 → F c ≤ 65536 → Chain pairs → InFields pairs
   unfolding InFields
   chain-fields pairs a b h n l =
-      let r : (getD pairs n (0, 0) .0 < L c t) × (getD pairs n (0, 0) .1 < F c) = takes-named c t f (take n pairs) _ _ (chain-takes pairs h n l) in
+      let r : Takeable c t f (take n pairs) (getD pairs n (0, 0) .0) (getD pairs n (0, 0) .1) = takeable c t f (take n pairs) _ _ (chain-takes pairs h n l) in
       (omega arith, omega arith)
 
   -- ---- the pairs of Choose are such a chain

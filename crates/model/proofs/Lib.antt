@@ -8,6 +8,8 @@ pub mod Total
 pub mod Implication
 pub mod Runs
 pub mod Rows
+pub mod Starts
+pub mod Pairs
 pub mod Sound
 pub mod Accepted
 pub mod Stages
@@ -16,5 +18,7 @@ pub mod Bounds
 pub mod Records
 pub mod Best
 pub mod Choose
-pub mod Theorems
 pub mod ThreeValued
+pub mod Open
+pub mod Apart
+pub mod Theorems

@@ -1,15 +1,18 @@
 -- The records that Grade writes read back as the verdicts, each from its own 16 bytes.
 use mathlib.Core.Path.{_≡_, refl, ap, _∙_}
-use Prim.Native.Nat.{ℕ, suc, _+_, _*_, _≤_, _<_}
+use Prim.Native.Nat.{ℕ, suc, _+_, _*_, _/_, _%_, _≤_, _<_}
+use mathlib.Core.Bool.{true, false}
 use mathlib.Core.List.{List}
-use mathlib.Core.Option.{none}
+use mathlib.Core.Option.{none, orElse}
 use lib.ListN.{getD, length, take, drop, length-drop}
 use lib.Seq.{drop-append-le, take-append-le}
+use lib.Dec.{eqb, ltb}
+use borrow.Author.Tests.{eq-eqb, le-ltb}
 use native.Mathlib.Omega.{arith}
 use native.Mathlib.Nat.{mul-le-mul-left}
 use Rattle.lists.specs.Field.{word16, bytes16, overwritten}
 use Rattle.model.specs.Inputs.{faultCount, faultAt}
-use Rattle.model.specs.Refusals.{unlessRefused, gradeRefusal}
+use Rattle.model.specs.Refusals.{refuse, row15, row14, gradeRefusal, groupRefusal, unlessRefused}
 use Rattle.model.specs.Grade.{Verdict, grade, recordBytes, recordAt, gradeBytes, gradeArea}
 use Rattle.model.specs.Promises.{InBounds, recordPart}
 use Rattle.lists.proofs.Scan.{length-gather, gather-part}
@@ -49,11 +52,20 @@ recordAt-part area j =
       word-of-part area (16 * j) 16 12 (omega arith),
     )
 
-module _ (c t fs p : List ℕ) (k work : ℕ) (old : List ℕ) (e : gradeRefusal c t fs p k work (length old) ≡ none) where
-  length-gradeBytes : length (gradeBytes c t fs p k) ≡ 16 * faultCount fs
-  unfolding gradeBytes
-  length-gradeBytes = length-gather (λ j. recordBytes (grade c t (faultAt fs j) p k)) 16 (λ j. length-record _) (faultCount fs)
+pub length-gradeBytes : (c t fs p : List ℕ) (k : ℕ) → length (gradeBytes c t fs p k) ≡ 16 * faultCount fs
+unfolding gradeBytes
+length-gradeBytes c t fs p k = length-gather (λ j. recordBytes (grade c t (faultAt fs j) p k)) 16 (λ j. length-record _) (faultCount fs)
 
+-- Group takes any records that fit the program's area
+pub group-accepts : (vs : List ℕ) (n : ℕ) → length vs ≡ 16 * n → 16 * n ≤ 65536 → groupRefusal vs 65536 ≡ none
+unfolding groupRefusal row15 row14 refuse orElse
+group-accepts vs n e h =
+    let whole : eqb (length vs % 16) 0 ≡ true = eq-eqb (length vs % 16) 0 (omega arith) in
+    let short : ltb 524288 (length vs) ≡ false = le-ltb 524288 (length vs) (omega arith) in
+    let room : ltb 65536 (2 * (length vs / 16)) ≡ false = le-ltb 65536 (2 * (length vs / 16)) (omega arith) in
+    rw (whole, short, room)
+
+module _ (c t fs p : List ℕ) (k work : ℕ) (old : List ℕ) (e : gradeRefusal c t fs p k work (length old) ≡ none) where
   bytes-part : (j : ℕ) → j < faultCount fs → take 16 (drop (16 * j) (gradeBytes c t fs p k)) ≡ recordBytes (grade c t (faultAt fs j) p k)
   unfolding gradeBytes
   bytes-part j h = gather-part (λ j. recordBytes (grade c t (faultAt fs j) p k)) 16 (λ j. length-record _) (faultCount fs) j h
@@ -63,7 +75,7 @@ module _ (c t fs p : List ℕ) (k work : ℕ) (old : List ℕ) (e : gradeRefusal
   unfolding gradeArea unlessRefused overwritten
   area-part j h =
       let up : 16 * suc j ≤ 16 * faultCount fs = mul-le-mul-left 16 h in
-      let l : length (gradeBytes c t fs p k) ≡ 16 * faultCount fs = length-gradeBytes in
+      let l : length (gradeBytes c t fs p k) ≡ 16 * faultCount fs = length-gradeBytes c t fs p k in
       let left : 16 ≤ length (drop (16 * j) (gradeBytes c t fs p k)) = rw length-drop (omega arith) in
       rw e
       (ap (take 16) (drop-append-le (16 * j) (gradeBytes c t fs p k) _ (omega arith))

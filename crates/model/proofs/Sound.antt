@@ -11,14 +11,14 @@ use native.Mathlib.Decide.{decLe}
 use native.Mathlib.Nat.{le-div-iff-mul-le}
 use borrow.Author.Tests.{eqb-true, eq-eqb, ltb-true, ltb-false, lt-ltb}
 use Rattle.lists.specs.Scan.{anyBelow}
-use Rattle.model.specs.Inputs.{N, pinLine, isOutput, flipFlopLine, outputLines, I, F, L, inputsAt, Fault, planCount, planPair}
+use Rattle.model.specs.Inputs.{N, pinLine, isOutput, flipFlopLine, outputLines, I, F, L, inputsAt, Fault}
 use Rattle.model.specs.Accepted.{ValidCircuit}
 use Rattle.model.specs.Values.{X, giveRow, someOppose}
 use Rattle.model.specs.Simulation.{lineValues, outputs, nextState, powerUp, stateAt, valuesAt, outputsAt, plainState, plainValues, plainOutputs, freeValues, freeOutputs}
 use Rattle.model.specs.Starts.{bits, startingState, differs}
 use Rattle.model.specs.Implication.{nothing, impliedAt, marked, extra}
 use Rattle.model.specs.Expansion.{countOpen, nsv, openPlaces, nout, bothOpen, tried, bothMarked, alone, written, rowAfter, opposedWrite, stateRow}
-use Rattle.model.specs.Sequences.{takes, takeNext, takenOf, taken, sequenceRow, ending, endOf, countEnding, endsSurviving}
+use Rattle.model.specs.Sequences.{taken, sequenceRow, ending, endOf, countEnding, endsSurviving}
 use Rattle.model.specs.Grade.{opposedAt}
 use Rattle.lists.proofs.Tests.{and-left, and-right, and-fails, or-cases, cond-cases, clash, is-false, is-true}
 use Rattle.lists.proofs.Scan.{anyBelow-false, anyBelow-none, countBelow-positive}
@@ -26,6 +26,7 @@ use Rattle.model.proofs.Allows.{Allows, AllowsRow, outputs-allows, next
 use Rattle.model.proofs.Total.{Total, TotalRow, take-total, drop-total, total-allows, totalRow-allows, total-bit, total-cases, getD-total, allows-equal}
 use Rattle.model.proofs.Implication.{Settled, implied-allows, no-conflict, someOppose-allows}
 use Rattle.model.proofs.Runs.{flipFlopLine-holds, length-nextState, length-lineValues, lineValues-total, nextState-total, settled}
+use Rattle.model.proofs.Pairs.{taken-all}
 use Rattle.model.proofs.Rows.{giveRow-allows, rows-agree, whereX-allows, unknown-allows, set-allows, length-bits, bits-total, someOppose-select, closed-row, countX-unknown}
 
 -- what an accepted job gives of its circuit, its test and one of its faults
@@ -36,7 +37,7 @@ pub record FaultJob (c t : List ℕ) (f : Fault) : Type 0 where
   pub value : Total (f .value)
 
 -- pairs that name a state bit
-unfoldable pub Named : List ℕ → List ℕ → List (ℕ × ℕ) → Type 0
+Named : List ℕ → List ℕ → List (ℕ × ℕ) → Type 0
 Named c t [] = Unit {0}
 Named c t (q ∷ pairs) = (q .0 < L c t) × (q .1 < F c) × Named c t pairs
 
@@ -49,28 +50,8 @@ unfolding Named
 snoc-named c t [] u i h a b = (a, b, tt)
 snoc-named c t (q ∷ pairs) u i h a b = (h .0, h .1, snoc-named c t pairs u i (h .2) a b)
 
-module _ (c t : List ℕ) (f : Fault) where
-  pub takes-named : (pairs : List (ℕ × ℕ)) (u i : ℕ) → takes c t f pairs u i ≡ true → (u < L c t) × (i < F c)
-  unfolding takes
-  takes-named pairs u i e =
-      let d : ltb u (L c t) && ltb i (F c) ≡ true = and-left _ _ (and-left _ _ (and-left _ _ (and-left _ _ e))) in
-      (ltb-true u (L c t) (and-left _ (ltb i (F c)) d), ltb-true i (F c) (and-right (ltb u (L c t)) (ltb i (F c)) d))
-
-  takenOf-named : (p : List ℕ) (k n : ℕ) → Named c t (takenOf c t f p k n)
-  unfolding takenOf takeNext
-  takenOf-named p k zero = nil-named c t
-  takenOf-named p k (suc n) =
-      let pairs = takenOf c t f p k n in
-      let q = planPair p n in
-      cond-cases (Named c t) _ _ pairs
-      (λ e.
-      let r : (q .0 < L c t) × (q .1 < F c) = takes-named pairs (q .0) (q .1) (and-right (ltb (length pairs) k) _ e) in
-      snoc-named c t pairs (q .0) (q .1) (takenOf-named p k n) (r .0) (r .1))
-      (λ _. takenOf-named p k n)
-
-  pub taken-named : (p : List ℕ) (k : ℕ) → Named c t (taken c t f p k)
-  unfolding taken
-  taken-named p k = takenOf-named p k (planCount p)
+taken-named : (c t : List ℕ) (f : Fault) (p : List ℕ) (k : ℕ) → Named c t (taken c t f p k)
+taken-named c t f p k = taken-all c t f p k (Named c t) (nil-named c t) (λ pairs u i _ h n. snoc-named c t pairs u i n (h .unit) (h .bit))
 
 module _ (c t : List ℕ) (f : Fault) (a : FaultJob c t f) where
   inputs-total : (u : ℕ) → TotalRow (inputsAt c t u)
@@ -266,7 +247,7 @@ module _ (c t : List ℕ) (f : Fault) (a : FaultJob c t f) where
           (λ g. sequenceRow-allows pairs (suc u) n (ltb-true _ _ g)) (λ _. nothing-allows (suc u) (omega arith)) in
           let m : AllowsRow (giveRow (nextState c f (lineValues c f (inputsAt c t u) now)) _) (stateAt c t f st (suc u)) =
           giveRow-allows _ _ _ (next-step u _ v) row in
-          rw (no-opposing u _ (omega arith) v, no-conflict _ _ m) (ending-survives pairs n left (suc u) _ (omega arith) m)
+          rw (no-conflict _ _ m, no-opposing u _ (omega arith) v) (ending-survives pairs n left (suc u) _ (omega arith) m)
 
       some-survives : (pairs : List (ℕ × ℕ)) → Named c t pairs → eqb (countEnding c t f pairs endsSurviving) 0 ≡ true → ⊥
       unfolding countEnding endOf

@@ -5,7 +5,7 @@ use mathlib.Core.Bool.{Bool, true, false, not}
 use mathlib.Core.List.{List}
 use mathlib.Core.Option.{Option, none, some, Option·some-injective, Option·none-ne-some, Option·some-ne-none}
 use lib.Dec.{eqb, leb}
-use Rattle.lists.specs.Scan.{orGiven, first, firstPair, anyBelow}
+use Rattle.lists.specs.Scan.{first, firstPair, anyBelow}
 use Rattle.model.specs.Inputs.{N, flipFlopLine, F, L, Fault}
 use Rattle.model.specs.Starts.{freeBits, startCount, differs}
 use Rattle.model.specs.Expansion.{bothOpen, bothMarked, opposedWrite}
@@ -14,7 +14,7 @@ use Rattle.model.specs.Grade.{Verdict, placed, opposedAt, stage1, stage2
 use Rattle.lists.proofs.Tests.{cond-cases}
 use Rattle.lists.proofs.Scan.{else-some, else-found, else-skips, given-cases, first-none, first-some, Lowest, firstPair-some, firstPair-none, Found}
 
-atPair-none : (make : ℕ → ℕ → Verdict) (o : Option (ℕ × ℕ)) → atPair make o ≡ none → o ≡ none
+pub atPair-none : (make : ℕ → ℕ → Verdict) (o : Option (ℕ × ℕ)) → atPair make o ≡ none → o ≡ none
 unfolding atPair
 atPair-none make none e = refl
 atPair-none make (some q) e = absurd (Option·some-ne-none _ e)
@@ -93,7 +93,7 @@ module _ (Q : Verdict → Type 0) where
 
 -- a verdict of stages 1 to 4 is Grade's
 pub grade-before : (c t : List ℕ) (f : Fault) (p : List ℕ) (k : ℕ) (v : Verdict) → beforeStage5 c t f ≡ some v → grade c t f p k ≡ v
-unfolding grade orGiven
+unfolding grade
 grade-before c t f p k v e = rw (else-found (beforeStage5 c t f) (stage5 c t f p k) v e)
 
 pub grade-cases : (Q : Verdict → Type 0) (c t : List ℕ) (f : Fault) (p : List ℕ) (k : ℕ)

@@ -1,5 +1,5 @@
--- The theorems, for every accepted job. What `in-bounds`, `demand-three` and `chosen-well` say is defined in specs/Promises; `reads-back`,
--- `own-fault` and `fault-free` are stated here alone.
+-- The theorems, for every accepted job. What `reads-back`, `own-fault`, `fault-free` and `graded-groups` say is stated here alone, what the
+-- others say in specs/Promises.
 use mathlib.Core.Path.{_≡_, sym, ap, _∙_}
 use Prim.Native.Nat.{ℕ, _<_}
 use mathlib.Core.List.{List}
@@ -9,16 +9,19 @@ use native.Mathlib.Omega.{arith}
 use mathlib.Core.Bool.{false}
 use borrow.Author.Tests.{ne-eqb}
 use Rattle.model.specs.Inputs.{N, Fault, faultCount, faultAt}
-use Rattle.model.specs.Refusals.{circuitRows, gradeRefusal, chooseRefusal}
+use Rattle.model.specs.Refusals.{circuitRows, inputRows, gradeRefusal, chooseRefusal, groupRefusal}
 use Rattle.model.specs.Accepted.{ValidCircuit, GradeReady, ChooseReady}
 use Rattle.model.specs.Simulation.{noFault, isStuck}
-use Rattle.model.specs.Grade.{grade, recordBytes, recordAt, gradeArea}
-use Rattle.model.specs.Promises.{Demand3, InBounds, recordPart, WellChosen}
-use Rattle.model.proofs.Accepted.{validCircuit, faultJob, gradeReady, chooseReady}
+use Rattle.model.specs.Grade.{grade, recordBytes, recordAt, gradeBytes, gradeArea}
+use Rattle.model.specs.Promises.{EveryStart, Demand3, InBounds, recordPart, WellChosen, PinsOpen, ClearLists}
+use Rattle.model.proofs.Accepted.{validCircuit, validInputs, faultJob, gradeReady, chooseReady}
 use Rattle.model.proofs.Promise.{promise}
 use Rattle.model.proofs.Bounds.{bounds}
-use Rattle.model.proofs.Records.{area-part, area-record}
+use Rattle.model.proofs.Records.{length-gradeBytes, group-accepts, area-part, area-record}
 use Rattle.model.proofs.Choose.{well-chosen}
+use Rattle.model.proofs.Starts.{every-start}
+use Rattle.model.proofs.Open.{pins-open}
+use Rattle.model.proofs.Apart.{sequence-clear}
 
 module _ (c t fs p : List ℕ) (k work : ℕ) (old : List ℕ) (e : gradeRefusal c t fs p k work (length old) ≡ none) (j : ℕ) (h : j < faultCount fs) where
   verdict-bounds : InBounds k (grade c t (faultAt fs j) p k)
@@ -63,3 +66,21 @@ unfolding isStuck noFault
 fault-free c e n pin h =
     let valid : ValidCircuit c = validCircuit c e in
     rw (ne-eqb 65536 n (λ q. (let z : ⊥ = omega (arith, valid .lines) in z)))
+
+-- what the program has graded Group takes, so that the print may name groups by their definition
+pub graded-groups : (c t fs p : List ℕ) → gradeRefusal c t fs p 6 65536 65536 ≡ none → groupRefusal (gradeBytes c t fs p 6) 65536 ≡ none
+graded-groups c t fs p e =
+    group-accepts (gradeBytes c t fs p 6) (faultCount fs) (length-gradeBytes c t fs p 6) (gradeReady c t fs p 6 65536 65536 e .resultRoom)
+
+-- demand 3 goes over the numbers of starting states, and these name every starting state
+pub all-starts : (c : List ℕ) → EveryStart c
+all-starts = every-start
+
+module _ (c t fs : List ℕ) (least most : ℕ) (e : inputRows c t least most fs ≡ none) (j : ℕ) (h : j < faultCount fs) where
+  -- no value given to a flip-flop's pin line meets the opposite value
+  pub open-pins : PinsOpen c t (faultAt fs j)
+  open-pins = let valid = validInputs c t least most fs e in pins-open c t (faultAt fs j) (valid .test) (valid .fault j h)
+
+  -- no list of a sequence has a conflict
+  pub clear-lists : ClearLists c t (faultAt fs j)
+  clear-lists = let valid = validInputs c t least most fs e in sequence-clear c t (faultAt fs j) (valid .test) (valid .fault j h)

@@ -1,4 +1,5 @@
 -- Every line value and every state bit is 0, 1 or X.
+use mathlib.Core.Path.{_≡_, refl}
 use Prim.Native.Nat.{ℕ, zero, suc, _+_, _*_, _/_, _≤_, _<_}
 use mathlib.Core.Bool.{Bool, true, false, cond}
 use mathlib.Core.List.{List, [], _∷_, _++_, map}
@@ -99,10 +100,10 @@ bytes-three [] m h = omega arith
 bytes-three (x ∷ xs) zero h = (let z : x ≤ 1 = h 0 (omega arith) in omega arith)
 bytes-three (x ∷ xs) (suc m) h = bytes-three xs m (λ b k. h (suc b) (omega arith))
 
-all-x-three : (n m : ℕ) → getD (replicate n X) m X ≤ 2
-all-x-three zero m = omega arith
-all-x-three (suc n) zero = omega arith
-all-x-three (suc n) (suc m) = all-x-three n m
+pub unknown-at : (n m : ℕ) → getD (replicate n X) m X ≡ X
+unknown-at zero m = refl
+unknown-at (suc n) zero = refl
+unknown-at (suc n) (suc m) = unknown-at n m
 
 pub inputs-three : (c t : List ℕ) (u : ℕ) → ((b : ℕ) → b < length t → getD t b 0 ≤ 1) → ThreeValued (inputsAt c t u)
 unfolding inputsAt
@@ -110,7 +111,7 @@ inputs-three c t u h = record { at = λ m. take-three (I c) (drop (I c * u) t) m
 
 pub powerUp-three : (c : List ℕ) → ThreeValued (powerUp c)
 unfolding powerUp
-powerUp-three c = record { at = λ m. all-x-three (F c) m }
+powerUp-three c = record { at = λ m. rw (unknown-at (F c) m) (omega arith) }
 
 module _ (c : List ℕ) (f : Fault) (b : f .value < 2) where
   seen-three : (n pin v : ℕ) → v ≤ 2 → seen f n pin v ≤ 2

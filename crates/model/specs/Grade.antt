@@ -2,10 +2,10 @@
 use Prim.Native.Nat.{ℕ, _+_, _*_}
 use mathlib.Core.Bool.{Bool, cond, not, _&&_}
 use mathlib.Core.List.{List, [], _∷_, _++_}
-use mathlib.Core.Option.{Option, none, some}
+use mathlib.Core.Option.{Option, none, some, Option·getD}
 use lib.ListN.{getD, length}
 use lib.Dec.{eqb, leb}
-use Rattle.lists.specs.Scan.{_else_, orGiven, first, firstPair, anyBelow, gather}
+use Rattle.lists.specs.Scan.{_else_, first, firstPair, anyBelow, gather}
 use Rattle.lists.specs.Field.{word16, bytes16, overwritten}
 use Rattle.model.specs.Inputs.{N, isOutput, flipFlopLine, F, L, Fault, faultCount, faultAt}
 use Rattle.model.specs.Refusals.{Answer, answer, unlessRefused, gradeRefusal}
@@ -92,7 +92,7 @@ module _ (c t : List ℕ) (f : Fault) where
     stage6 = cond (leb (freeBits c) k) (fromStart (first (λ s. not (differs c t f s)) (startCount c))) (counted 7 0)
 
     unfoldable pub grade : Verdict
-    grade = orGiven (beforeStage5 else stage5) stage6
+    grade = Option·getD (beforeStage5 else stage5) stage6
 
 -- Verdict record, 16 bytes: verdict, m, then 16-bit time, line, differing, clashing, surviving, start, and 0.
 unfoldable pub recordBytes : Verdict → List ℕ

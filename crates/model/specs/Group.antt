@@ -2,9 +2,10 @@
 use Prim.Native.Nat.{ℕ, _/_}
 use mathlib.Core.Bool.{Bool, _&&_}
 use mathlib.Core.List.{List}
+use mathlib.Core.Option.{Option·getD}
 use lib.ListN.{length}
 use lib.Dec.{eqb}
-use Rattle.lists.specs.Scan.{orGiven, first, gather}
+use Rattle.lists.specs.Scan.{first, gather}
 use Rattle.lists.specs.Field.{bytes16, overwritten}
 use Rattle.model.specs.Refusals.{Answer, answer, unlessRefused, groupRefusal}
 use Rattle.model.specs.Grade.{recordAt}
@@ -17,7 +18,7 @@ alike vs a b =
     eqb (r .verdict) (s .verdict) && eqb (r .time) (s .time) && eqb (r .line) (s .line)
 
 unfoldable pub groupOf : List ℕ → ℕ → ℕ
-groupOf vs j = orGiven (first (λ a. alike vs a j) j) j
+groupOf vs j = Option·getD (first (λ a. alike vs a j) j) j
 
 unfoldable pub groupBytes : List ℕ → List ℕ
 groupBytes vs = gather (λ j. bytes16 (groupOf vs j)) (length vs / 16)

@@ -2,10 +2,10 @@
 use Prim.Native.Nat.{ℕ, zero, suc, _+_, _/_, _%_}
 use mathlib.Core.Bool.{cond}
 use mathlib.Core.List.{List, [], _∷_, _++_}
-use mathlib.Core.Option.{Option, none, some}
+use mathlib.Core.Option.{Option, none, some, Option·getD}
 use lib.ListN.{length}
 use lib.Dec.{ltb}
-use Rattle.lists.specs.Scan.{_else_, orGiven, gather}
+use Rattle.lists.specs.Scan.{_else_, gather}
 use Rattle.model.specs.Inputs.{Fault, faultCount, faultAt}
 use Rattle.model.specs.Refusals.{Refusal, gradeRefusal}
 use Rattle.model.specs.Grade.{Verdict, eightFields, recordAt, gradeBytes}
@@ -66,5 +66,5 @@ jobLines (some r) fs records = refusedLine (r .0) (r .1)
 -- lends 65,536 bytes for each area, k = 6
 unfoldable pub printed : List ℕ → List ℕ → List ℕ → List ℕ → List ℕ
 printed c t fs p =
-    orGiven (tooLong c circuitName else tooLong t testName else tooLong fs faultsName else tooLong p planName)
+    Option·getD (tooLong c circuitName else tooLong t testName else tooLong fs faultsName else tooLong p planName)
     (jobLines (gradeRefusal c t fs p 6 65536 65536) fs (gradeBytes c t fs p 6))

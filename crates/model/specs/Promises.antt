@@ -1,19 +1,33 @@
--- What is promised of the bytes that Grade writes, for every accepted job, and of the pairs that Choose writes. The theorems are in
--- proofs/Theorems.
+-- What is promised of the bytes that Grade writes, for every accepted job, and of the pairs that Choose writes; and what holds of the
+-- definitions, so that they say what document 01 does. The theorems are in proofs/Theorems.
 use mathlib.Core.Path.{_≡_}
 use mathlib.Core.Logic.{_↔_}
-use Prim.Native.Nat.{ℕ, _+_, _*_, _^_, _≤_, _<_}
+use Prim.Native.Nat.{ℕ, suc, _+_, _*_, _^_, _≤_, _<_}
 use mathlib.Core.Bool.{Bool, true, false, _||_}
 use mathlib.Core.List.{List, []}
 use mathlib.Core.Option.{none, some}
 use lib.ListN.{getD, length, take, drop}
 use lib.Dec.{eqb}
-use Rattle.model.specs.Inputs.{Fault, faultCount, faultAt}
+use Rattle.model.specs.Inputs.{pinLine, flipFlopLine, F, L, Fault, faultCount, faultAt}
 use Rattle.model.specs.Refusals.{row11, gradeRefusal}
-use Rattle.model.specs.Starts.{freeBits, startCount, differs}
-use Rattle.model.specs.Sequences.{takes, taken}
-use Rattle.model.specs.Grade.{Verdict, recordAt, beforeStage5, grade}
+use Rattle.model.specs.Values.{X, hasConflict}
+use Rattle.model.specs.Starts.{freeBits, startingState, startCount, differs}
+use Rattle.model.specs.Simulation.{plainValues}
+use Rattle.model.specs.Expansion.{tried}
+use Rattle.model.specs.Sequences.{takes, taken, sequenceRow}
+use Rattle.model.specs.Grade.{Verdict, recordAt, stage4, beforeStage5, grade}
 use Rattle.model.specs.Choose.{better, chosen, planBytes}
+
+-- st gives each flip-flop's state bit 0 or 1
+pub record Setting (c st : List ℕ) : Type 0 where
+  pub size : length st ≡ F c
+  pub low : (i : ℕ) → i < length st → getD st i X ≤ 1
+
+-- The numbers below the count of starting states name every setting of the state bits, each once.
+pub record EveryStart (c : List ℕ) : Type 0 where
+  pub settings : (s : ℕ) → s < startCount c → Setting c (startingState c s)
+  pub every : (st : List ℕ) → Setting c st → (s : ℕ) × (s < startCount c) × (startingState c s ≡ st)
+  pub once : (s r : ℕ) → s < startCount c → r < startCount c → startingState c s ≡ startingState c r → s ≡ r
 
 -- every starting state of the circuit with the fault differs
 abbrev pub EveryDiffers : List ℕ → List ℕ → Fault → Type 0
@@ -80,3 +94,16 @@ pub record WellChosen (c t : List ℕ) (f : Fault) (k : ℕ) : Type 0 where
   pub decided : (v : Verdict) → beforeStage5 c t f ≡ some v → chosen c t f k ≡ []
   pub carried : grade c t f (planBytes (chosen c t f k)) k .m ≡ length (chosen c t f k)
   pub stops : beforeStage5 c t f ≡ none → length (chosen c t f k) < k → (u i : ℕ) → takes c t f (chosen c t f k) u i ≡ false
+
+-- A flip-flop's pin line that is given a value has X in plain simulation, so the value never meets the opposite one: of a pair that stage 3
+-- tries, and of one that stage 5 takes.
+pub record PinsOpen (c t : List ℕ) (f : Fault) : Type 0 where
+  pub whenTried : (u i : ℕ) → i < F c → tried c t f (suc u) i ≡ true → getD (plainValues c t f u) (pinLine c (flipFlopLine c i) 1) X ≡ X
+  pub whenTaken : (pairs : List (ℕ × ℕ)) (u i : ℕ) → takes c t f pairs (suc u) i ≡ true
+      → getD (plainValues c t f u) (pinLine c (flipFlopLine c i) 1) X ≡ X
+
+-- Where stage 4 gives no verdict, the list of a sequence has no conflict in it, at unit 0 too: a bit is specified there by the state list or
+-- by one of the pairs taken, never by two of them.
+abbrev pub ClearLists : List ℕ → List ℕ → Fault → Type 0
+ClearLists c t f =
+    stage4 c t f ≡ none → (p : List ℕ) (k b u : ℕ) → u < L c t → hasConflict (sequenceRow c t f (taken c t f p k) b u) ≡ false
