@@ -1,16 +1,17 @@
-// What a program needs around the calls: text and numbers on standard output, a whole file in an area, and a look at an area that must
-// have kept the byte it was filled with.
+// What a program needs around the calls: text, numbers and values on standard output, a file read into an area, and a look at an area
+// that is to have kept the byte it was made of, as `[170u8; 2048]` is. What is printed is tested, not proved.
 ghost use mathlib.Core.Path.{_≡_};
 ghost use mathlib.Core.Bool.{true};
-ghost use lib.ListN.{length, replicate};
 ghost use Rattle.io.specs.Counts.{Counts};
+ghost use Rattle.printing.specs.Only.{Only};
 use libc::STDOUT_FILENO;
 
+// Bytes as they are.
 pub fn text(bytes: &[u8]) {
     io::write_all(STDOUT_FILENO, bytes);
 }
 
-// In decimal.
+// A number, in decimal.
 pub fn number(n: usize) {
     io::print_decimal(STDOUT_FILENO, n as u64);
 }
@@ -23,7 +24,7 @@ fn item(i: usize, n: usize) {
     number(n);
 }
 
-// With a space between two of them.
+// Numbers, with a space between two of them.
 pub fn numbers(list: &[usize]) {
     let mut i: usize = 0;
     while i < list.len() {
@@ -32,12 +33,19 @@ pub fn numbers(list: &[usize]) {
     }
 }
 
-// The numbers as a line of its own.
-pub fn line(list: &[usize]) {
+// The same, and the end of the line.
+pub fn row(list: &[usize]) {
     numbers(list);
     text(b"\n");
 }
 
+// The number and the position by which a call refused.
+pub fn refused(rule: u8, at: usize) {
+    text(b"refused ");
+    numbers(&[rule as usize, at]);
+}
+
+// 0, 1, or x for 2.
 pub fn value(v: u8) {
     match v {
         0 => text(b"0"),
@@ -47,7 +55,7 @@ pub fn value(v: u8) {
     }
 }
 
-// With nothing between them.
+// Values, with nothing between them.
 pub fn values(list: &[u8]) {
     let mut i: usize = 0;
     while i < list.len() {
@@ -56,8 +64,8 @@ pub fn values(list: &[u8]) {
     }
 }
 
-// The file's bytes at the start of the area, as many as there is room for; how many. A file that cannot be read is named on standard
-// error, and has none.
+// Puts the file's bytes at the start of the area, as many as there is room for; how many. A file that cannot be opened has none, and is
+// named on standard error with the reason.
 pub fn read(name: &[u8], area: &mut [u8]) -> usize
     ensures { λ r. ⌜ Counts r (now (area .exit)) ⌝ }
 {
@@ -73,7 +81,7 @@ pub fn read(name: &[u8], area: &mut [u8]) -> usize
 
 // Whether every byte of the area is this one.
 pub fn kept(area: &[u8], byte: u8) -> bool
-    ensures { λ r. ⌜ (r ≡ true → now (area .entry) ≡ replicate (length (now (area .entry))) byte) × (now (area .entry) ≡ replicate (length (now (area .entry))) byte → r ≡ true) ⌝ }
+    ensures { λ r. ⌜ (r ≡ true → Only byte (now (area .entry))) × (Only byte (now (area .entry)) → r ≡ true) ⌝ }
 {
     let mut i: usize = 0;
     while i < area.len() {

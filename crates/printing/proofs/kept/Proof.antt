@@ -1,7 +1,7 @@
--- Every byte before the place is the one asked for.
+-- Every byte before the place is the one asked for; what is not named is found by the search.
 use Prim.Native.Nat.{ℕ, _≤_, _<_, _-_}
-use mathlib.Core.Path.{_≡_, refl, sym, _∙_}
-use lib.ListN.{length, getD, replicate, length-replicate, getD-replicate}
+use mathlib.Core.Path.{_≡_, refl, sym}
+use lib.ListN.{length, getD, length-replicate, getD-replicate}
 use lib.Seq.{ext-getD}
 use native.Mathlib.Omega.{arith}
 use borrow.Author.Count.{below-more}

@@ -1,4 +1,4 @@
--- The place stays within the list.
+-- The place stays within the list; what is not named is found by the search.
 use Prim.Native.Nat.{_≤_, _-_}
 use lib.ListN.{length}
 use borrow.Author.Needs.{needs}
