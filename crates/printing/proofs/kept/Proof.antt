@@ -15,14 +15,11 @@ Inv-loop area byte i₀ i = (i ≤ length area) × ((k : ℕ) → k < i → getD
 abbrev μ-loop : tie.MeasureT-loop
 μ-loop area byte i₀ i = length area - i
 
-abbrev turn : tie.Else1 Inv-loop μ-loop → tie.At-loop Inv-loop μ-loop
-turn c = c .before .before .before
-
 returns : tie.Need-returns Inv-loop μ-loop
 returns c = (λ e. cc, λ e. absurd (c .if1 .taken (rw (e, getD-replicate _ _ _ _ (c .before .before .loop-test .taken)))))
 
 loop-again : tie.Need-loop-again Inv-loop μ-loop
-loop-again c = (search needs, below-more _ _ (turn c .loop .inv .1) (c .if1 .left))
+loop-again c = (search needs, below-more _ _ (c .before .before .before .loop .inv .1) (c .if1 .left))
 
 returns-2 : tie.Need-returns-2 Inv-loop μ-loop
 returns-2 c = (λ _. ext-getD 0 _ _ (sym (length-replicate _ _)) (λ i l. rw getD-replicate (c .before .loop .inv .1 i (omega arith))), λ _. refl)
