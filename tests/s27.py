@@ -1,9 +1,9 @@
 """The circuit s27 and its test in source document 001, and what the program s27_test must print.
 
 Writes samples/s27/, the same files in crates/s27_test/data/, and crates/s27_test/stdout. The detection times are those printed there (Table 3.4), not computed.
-Run it from the top of the repository: python3 tests/s27.py
+Run it from the top of the repository: python3 tests/s27.py. samples/s27/README.md says what is published and what is inferred.
 
-The source numbers 26 places of the circuit, fanout branches included; its figure is lost. The places below are those that agree with all its
+The source numbers 26 places of the circuit, fanout branches included, and has no figure of them. The places below are those that agree with all its
 tables of detection times (3.4, 3.6, 3.8), with its collapsed fault list, and with the convention that the inputs come first.
 """
 import os

@@ -1,89 +1,70 @@
 // Calls Simulate on every job of jobs.dat and prints what it answered and wrote. A job is five 16-bit numbers, the bytes of circuit,
-// test, faults, work area and result area, and then the bytes of circuit, test and faults. Both areas are filled with one byte first;
-// after the call `kept` says that the bytes that must stay have stayed: those of the result area past the result, and where the call
+// test, faults, work area and result area, and then the bytes of circuit, test and faults. Both areas hold one byte throughout before the
+// call; `kept` says afterwards that the bytes that must stay have stayed: those of the result area past the result, and where the call
 // refused all of both areas.
 ghost use Prim.Native.Nat.{_+_, _<_, _≤_};
 ghost use lib.ListN.{length};
 use job::Outcome;
-use libc::STDOUT_FILENO;
 
-fn fill(area: &mut [u8]) {
-    let mut i: usize = 0;
-    while i < area.len() {
-        area[i] = 170;
-        i += 1;
-    }
-}
+// The byte that both areas hold at first.
+const BLANK: u8 = 170;
 
-fn kept(area: &[u8]) -> bool {
-    let mut i: usize = 0;
-    while i < area.len() {
-        if area[i] != 170 {
-            return false;
-        }
-        i += 1;
-    }
-    true
-}
+// How long the areas of a job may be.
+const WORK: usize = 40960;
 
-fn print(text: &[u8]) {
-    io::write_all(STDOUT_FILENO, text);
-}
-
-fn print_number(n: usize) {
-    io::print_decimal(STDOUT_FILENO, n as u64);
-}
-
-fn print_value(v: u8) {
-    match v {
-        0 => print(b"0"),
-        1 => print(b"1"),
-        2 => print(b"x"),
-        _ => print(b"?"),
-    }
-}
-
-fn print_values(values: &[u8]) {
-    let mut i: usize = 0;
-    while i < values.len() {
-        print_value(values[i]);
-        i += 1;
-    }
-}
+const RESULT: usize = 2048;
 
 fn print_kept(same: bool) {
     if same {
-        print(b" kept\n");
+        printing::text(b" kept\n");
     } else {
-        print(b" CHANGED\n");
+        printing::text(b" CHANGED\n");
     }
 }
 
-fn report(outcome: Outcome, work: &[u8], result: &[u8]) {
-    match outcome {
-        Outcome::Done(n) => {
-            print(b"done ");
-            print_number(n);
-            print(b" ");
-            if result.len() < n {
-                print(b"TOO MANY\n");
-                return;
-            }
-            print_values(&result[..n]);
-            print_kept(kept(&result[n..]));
-        }
-        Outcome::Refused { rule, at } => {
-            print(b"refused ");
-            print_number(basics::wide(rule));
-            print(b" ");
-            print_number(at);
-            print_kept(basics::both(kept(work), kept(result)));
-        }
+fn print_done(n: usize, result: &[u8; RESULT]) {
+    printing::text(b"done ");
+    printing::number(n);
+    printing::text(b" ");
+    if RESULT < n {
+        printing::text(b"TOO MANY\n");
+        return;
+    }
+    let area = &result[..];
+    printing::values(&area[0..n]);
+    print_kept(printing::kept(&area[n..], BLANK));
+}
+
+fn print_refused(rule: u8, at: usize, work: &[u8; WORK], result: &[u8; RESULT]) {
+    printing::refused(rule, at);
+    print_kept(basics::both(printing::kept(work, BLANK), printing::kept(result, BLANK)));
+}
+
+fn run(circuit: &[u8], test: &[u8], faults: &[u8], room: usize, size: usize) {
+    let mut work = [BLANK; WORK];
+    let mut result = [BLANK; RESULT];
+    if WORK < room {
+        printing::text(b"the work area is too long\n");
+        return;
+    }
+    if RESULT < size {
+        printing::text(b"the result area is too long\n");
+        return;
+    }
+    match simulate::simulate(
+        circuit,
+        test,
+        faults,
+        &mut work[0..room],
+        &mut result[0..size],
+    ) {
+        Outcome::Done(n) => print_done(n, &result),
+        Outcome::Refused { rule, at } => print_refused(rule, at, &work, &result),
     }
 }
 
 // The job that begins here; where the next one begins.
-fn run_job(jobs: &[u8], at: usize, work: &mut [u8], result: &mut [u8]) -> usize
+fn run_job(jobs: &[u8], at: usize) -> usize
     requires { ⌜ at + 10 ≤ length (now jobs) ⌝ }
     ensures { λ r. ⌜ (at < r) × (r ≤ length (now (jobs .entry))) ⌝ }
 {
@@ -91,47 +72,31 @@ fn run_job(jobs: &[u8], at: usize, work: &mut [u8], result: &mut [u8]) -> usize
     let test = from + basics::word_at(jobs, at);
     let faults = test + basics::word_at(jobs, at + 2);
     let end = faults + basics::word_at(jobs, at + 4);
-    let w = basics::word_at(jobs, at + 6);
-    let r = basics::word_at(jobs, at + 8);
+    let room = basics::word_at(jobs, at + 6);
+    let size = basics::word_at(jobs, at + 8);
     if jobs.len() < end {
-        print(b"the last job is cut off\n");
+        printing::text(b"the last job is cut off\n");
         return jobs.len();
     }
-    if work.len() < w {
-        return end;
-    }
-    if result.len() < r {
-        return end;
-    }
-    fill(work);
-    fill(result);
-    let outcome = simulate::simulate(
+    run(
         &jobs[from..test],
         &jobs[test..faults],
         &jobs[faults..end],
-        &mut work[..w],
-        &mut result[..r],
+        room,
+        size,
     );
-    report(outcome, work, result);
     end
 }
 
-fn run_jobs(jobs: &[u8], work: &mut [u8], result: &mut [u8]) {
+fn run_jobs(jobs: &[u8]) {
     let mut at: usize = 0;
     while at + 10 <= jobs.len() {
-        at = run_job(jobs, at, work, result);
+        at = run_job(jobs, at);
     }
 }
 
 fn main() {
     let mut jobs = [0u8; 262144];
-    let mut work = [0u8; 40960];
-    let mut result = [0u8; 2048];
-    let fd = os::open_read(b"jobs.dat");
-    let size = io::read_full(fd, &mut jobs);
-    libc::close(fd);
-    if 262144 < size {
-        return;
-    }
-    run_jobs(&jobs[..size], &mut work, &mut result);
+    let size = printing::read(b"jobs.dat", &mut jobs);
+    run_jobs(&jobs[..size]);
 }

@@ -1,0 +1,94 @@
+// What a program needs around the calls: text, numbers and values on standard output, a file read into an area, and a look at an area
+// that is to have kept the byte it was made of, as `[170u8; 2048]` is. What is printed is tested, not proved.
+ghost use mathlib.Core.Path.{_≡_};
+ghost use mathlib.Core.Bool.{true};
+ghost use Rattle.io.specs.Counts.{Counts};
+ghost use Rattle.printing.specs.Only.{Only};
+use libc::STDOUT_FILENO;
+
+// Bytes as they are.
+pub fn text(bytes: &[u8]) {
+    io::write_all(STDOUT_FILENO, bytes);
+}
+
+// A number, in decimal.
+pub fn number(n: usize) {
+    io::print_decimal(STDOUT_FILENO, n as u64);
+}
+
+// A number of a list, with a space before it unless it is the first.
+fn item(i: usize, n: usize) {
+    if 0 < i {
+        text(b" ");
+    }
+    number(n);
+}
+
+// Numbers, with a space between two of them.
+pub fn numbers(list: &[usize]) {
+    let mut i: usize = 0;
+    while i < list.len() {
+        item(i, list[i]);
+        i += 1;
+    }
+}
+
+// The same, and the end of the line.
+pub fn row(list: &[usize]) {
+    numbers(list);
+    text(b"\n");
+}
+
+// The number and the position by which a call refused.
+pub fn refused(rule: u8, at: usize) {
+    text(b"refused ");
+    numbers(&[rule as usize, at]);
+}
+
+// 0, 1, or x for 2.
+pub fn value(v: u8) {
+    match v {
+        0 => text(b"0"),
+        1 => text(b"1"),
+        2 => text(b"x"),
+        _ => text(b"?"),
+    }
+}
+
+// Values, with nothing between them.
+pub fn values(list: &[u8]) {
+    let mut i: usize = 0;
+    while i < list.len() {
+        value(list[i]);
+        i += 1;
+    }
+}
+
+// Puts the file's bytes at the start of the area, as many as there is room for; how many. A file that cannot be opened has none, and is
+// named on standard error with the reason.
+pub fn read(name: &[u8], area: &mut [u8]) -> usize
+    ensures { λ r. ⌜ Counts r (now (area .exit)) ⌝ }
+{
+    let fd = os::open_read(name);
+    if fd < 0 {
+        os::fail(name);
+        return 0;
+    }
+    let size = io::read_full(fd, area);
+    libc::close(fd);
+    size
+}
+
+// Whether every byte of the area is this one.
+pub fn kept(area: &[u8], byte: u8) -> bool
+    ensures { λ r. ⌜ (r ≡ true → Only byte (now (area .entry))) × (Only byte (now (area .entry)) → r ≡ true) ⌝ }
+{
+    let mut i: usize = 0;
+    while i < area.len() {
+        if area[i] != byte {
+            return false;
+        }
+        i += 1;
+    }
+    true
+}
