@@ -2,7 +2,7 @@
 use mathlib.Core.Path.{_≡_, refl, sym, ap, _∙_}
 use Prim.Native.Nat.{ℕ, zero, suc, _+_, _-_, _*_, _<_, _≤_}
 use mathlib.Core.Bool.{Bool, true, false, _&&_, _||_, and-comm, or-false, or-assoc}
-use mathlib.Core.List.{List, [], _∷_, _++_, append-assoc}
+use mathlib.Core.List.{List, [], _∷_, _++_}
 use lib.Bits.{bitAnd, bitOr}
 use lib.ListN.{getD, length, take, drop, length-append, length-drop, length-map, getD-replicate, length-replicate, List·getD-map}
 use lib.Seq.{take-length, take-suc, length-take-le}
@@ -12,7 +12,7 @@ use native.Mathlib.Nat.{mul-le-mul, mul-le-mul-left, mul-suc, mul-comm}
 use Rattle.lists.specs.Scan.{anyBelow, gather}
 use Rattle.lists.proofs.Scan.{All, all-at, select-all, length-select, length-gather, gather-turn, getD-any, anyBelow-more, countBelow-bound}
 use Rattle.lists.proofs.Tests.{and-left, by-test}
-use Rattle.model.specs.Inputs.{N, I, F, O, L, isInput, isOutput, outputLines, inputsAt, Fault}
+use Rattle.model.specs.Inputs.{N, I, F, O, L, isInput, isOutput, flipFlops, outputLines, inputsAt, Fault}
 use Rattle.model.specs.Accepted.{ValidCircuit, ValidTest, ThreeValued}
 use Rattle.model.specs.Values.{X, opposes, someOppose}
 use Rattle.model.specs.Simulation.{shown, powerUp, lineValues, outputs, nextState, stateAt, valuesAt, outputsAt}
@@ -22,11 +22,11 @@ use Rattle.lanes.specs.declared.Lanes.{Lanes}
 use Rattle.lanes.specs.Lane.{bit, Holds, allX, lanesAt, stored, Room, Lane}
 use Rattle.lanes.proofs.Bits.{bit-and, bit-or, bit-none}
 use Rattle.lanes.proofs.Laws.{lane-read, lane-add, lane-none, shows-x}
-use Rattle.circuit.specs.Table.{Listed}
+use Rattle.circuit.specs.Table.{Listed, PinTable}
 use Rattle.job.specs.Job.{JobOf}
 use Rattle.job.specs.declared.Job.{Job}
-use Rattle.unit.specs.Unit.{Stuck}
-use Rattle.run.specs.Run.{rowOf, runRow}
+use Rattle.unit.specs.Unit.{Stuck, MaskRoom}
+use Rattle.run.specs.Run.{Runnable, rowOf, runRow}
 
 -- record u of a table of n records of size i
 pub record-fits : (i u n : ℕ) → u < n → i * u + i ≤ n * i
@@ -49,8 +49,36 @@ row-long free o u units h l =
     let fits : o * u + o ≤ units * o = record-fits o u units h in
     rw (length-take-le (o * u + o - o * u) (drop (o * u) free) (rw length-drop (omega arith))) (omega arith)
 
-pub test-fits : (c t : List ℕ) (j : Job) (u : ℕ) → JobOf c t j → ValidTest c t → u < j .units → j .inputs * u + j .inputs ≤ length t
+test-fits : (c t : List ℕ) (j : Job) (u : ℕ) → JobOf c t j → ValidTest c t → u < j .units → j .inputs * u + j .inputs ≤ length t
 test-fits c t j u o v h = rw (v .whole, ← (o .units), ← (o .inputs)) (record-fits (j .inputs) u (j .units) h)
+
+-- what the two steps of a unit ask for, once words and states have been written over by w and s words
+module _ (c t : List ℕ) (j : Job) (pins flops outs hits masks words₀ state₀ : List ℕ) (run : Runnable c t j pins flops outs hits masks words₀ state₀)
+    (w s : ℕ) (lw : w ≡ length words₀) (ls : s ≡ length state₀) where
+  pub values-asked : (u : ℕ) → u < j .units → ValidCircuit c × PinTable c pins × (j .lines ≡ N c) × (j .inputs ≡ I c) × (j .inputs * u + j .inputs ≤ length t) × (j .lines ≤ length hits) × MaskRoom masks
+      × (2 * j .lines ≤ w) × (2 * F c ≤ s)
+  values-asked u h = (
+    run .circuit,
+    run .tables .pinTable,
+    run .sizes .lines,
+    run .sizes .inputs,
+    test-fits c t j u (run .sizes) (run .test) h,
+    omega (arith, run .sizes .lines, run .hitRoom),
+    run .maskRoom,
+    omega (arith, run .sizes .lines, run .lineRoom),
+    omega (arith, run .stateRoom),
+  )
+
+  pub next-asked : ValidCircuit c × Listed (flipFlops c) flops × (j .flops ≡ F c) × (N c ≤ length hits) × MaskRoom masks × (2 * N c ≤ w) × (2 * j .flops ≤ s)
+  next-asked = (
+    run .circuit,
+    run .tables .flopTable,
+    run .sizes .flops,
+    run .hitRoom,
+    run .maskRoom,
+    omega (arith, run .lineRoom),
+    omega (arith, run .sizes .flops, run .stateRoom),
+  )
 
 -- row u of a table of rows of one size, in an area of so many bytes
 pub record RowRoom (size u room : ℕ) : Type 0 where
@@ -215,8 +243,6 @@ module _ (c t : List ℕ) (f : Fault) (st : List ℕ) where
       let s : length (take bits (stateAt c t f st u)) ≡ bits = length-take-le bits (stateAt c t f st u) (omega arith) in
       omega arith))) u
 
-  pub rows-turn : (bits u : ℕ) → rows bits (u + 1) ≡ (rows bits u ++ outputs c f (lineValues c f (inputsAt c t u) (stateAt c t f st u))) ++ take bits (stateAt c t f st u)
+  pub rows-turn : (bits u : ℕ) → rows bits (u + 1) ≡ rows bits u ++ (outputs c f (lineValues c f (inputsAt c t u) (stateAt c t f st u)) ++ take bits (stateAt c t f st u))
   unfolding rows runRow outputsAt valuesAt
-  rows-turn bits u =
-      gather-turn (λ u. runRow c t f st bits u) u
-      ∙ sym (append-assoc (gather (λ u. runRow c t f st bits u) u) (outputs c f (lineValues c f (inputsAt c t u) (stateAt c t f st u))) (take bits (stateAt c t f st u)))
+  rows-turn bits u = gather-turn (λ u. runRow c t f st bits u) u

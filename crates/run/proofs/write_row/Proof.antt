@@ -1,38 +1,48 @@
+use mathlib.Core.Path.{_≡_, sym, _∙_}
+use Prim.Native.Nat.{_-_, _≤_}
+use native.Mathlib.Omega.{arith}
+use Rattle.lists.proofs.Field.{length-lent, written-behind}
+use Rattle.run.proofs.Laws.{length-outputs}
 use borrow.Author.Needs.{needs}
 use Rattle.run.proofs.write_row.Statement.{statement}
 use Rattle.run.proofs.write_row.Tie as tie
-use Rattle.run.proofs.write_row.Reads as reads
-use Rattle.run.proofs.write_row.Lts as lts
-use Rattle.run.proofs.write_outputs.Reads as write-outputs-reads
-use Rattle.run.proofs.write_state.Reads as write-state-reads
 
--- src/lib.rt:108:5
+-- places
+abbrev entry : tie.After-write-outputs → tie.Start
+entry c = c .before .before .before .before .before .before .before .before .before
+
+abbrev shown : tie.After-slice-known2 → tie.After-write-outputs
+shown c = c .before .before
+
+abbrev kept : tie.After-slice-known3 → tie.After-write-state
+kept c = c .before .before
+
 write-outputs-requires : tie.Need-write-outputs-requires
 write-outputs-requires c κs = search needs
 
--- src/lib.rt:109:36
 sub-write-state : tie.Need-sub-write-state
 sub-write-state c = search needs
 
--- src/lib.rt:109:36
 part-write-state-start : tie.Need-part-write-state-start
 part-write-state-start c = search needs
 
--- src/lib.rt:109:36
 part-write-state-end : tie.Need-part-write-state-end
 part-write-state-end c = search needs
 
--- src/lib.rt:109:5
 write-state-requires : tie.Need-write-state-requires
-write-state-requires c κs = search needs
+write-state-requires c κs =
+    let pre = entry (shown (c .before)) .pre in
+    (pre .4, pre .5, rw length-lent (omega (arith, pre .6, c .before .before .area .given)))
 
--- src/lib.rt:92:1
 same-length : tie.Need-same-length
 same-length c = search needs
 
--- src/lib.rt:92:1
 returns : tie.Need-returns
-returns c = ?
+returns c = λ f vs st s l e w ls es ws.
+    let state = kept c in
+    let outs = shown (state .before .before) in
+    let begin = entry outs in
+    written-behind _ _ _ _ _ _ (outs .write-outputs .ensures f vs s l e w) (length-outputs _ f vs ∙ sym (begin .pre .2)) (state .write-state .ensures st ls es ws)
 
 pub write-row-spec : {M : Type 1} → statement M
 write-row-spec =
