@@ -1,47 +1,67 @@
--- Rows 1 to 10 taken together, and the limits of k and of the bytes that row 13 asks for.
-use mathlib.Core.Path.{_≡_, sym}
-use Prim.Native.Nat.{ℕ, _+_, _*_, _%_, _≤_}
-use native.Mathlib.Omega.{arith}
-use native.Mathlib.Nat.{mul-le-mul}
+-- What a job's check gives, and how rows are joined to it.
+use mathlib.Core.Path.{_≡_, refl, sym, ap, _∙_}
 use mathlib.Core.List.{List}
-use mathlib.Core.Bool.{not, _||_}
-use mathlib.Core.Option.{none}
-use lib.ListN.{length}
-use lib.Dec.{eqb, ltb}
-use borrow.Author.Tests.{ltb-false}
-use Rattle.lists.proofs.Tests.{or-right-false}
+use mathlib.Core.Option.{none, some}
+use Prim.Native.Nat.{ℕ, _+_, _*_, _≤_}
+use native.Mathlib.Nat.{mul-le-mul}
+use native.Mathlib.Omega.{arith}
 use Rattle.lists.specs.Scan.{_else_}
-use Rattle.lists.proofs.Scan.{else-assoc, else-none}
-use Rattle.model.specs.Inputs.{faultCount}
-use Rattle.model.specs.Refusals.{Refusal, circuitRows, row7, row8, row9, row10, row12}
-use Rattle.model.proofs.Accepted.{refuse-none, validCircuit, validTest, validFault}
-use Rattle.job.specs.Job.{inputRows, Accepted}
+use Rattle.lists.proofs.Scan.{else-found, else-assoc}
+use Rattle.model.specs.Refusals.{Refusal, inputRows}
+use Rattle.model.proofs.Accepted.{validInputs}
+use Rattle.rules.specs.Check.{refusalOf}
+use Rattle.rules.specs.declared.Check.{Check}
+use Rattle.job.specs.Job.{jobRefusalOf, JobOf, JobChecked, Unless, Limited}
+use Rattle.job.specs.declared.Job.{Job}
+use Rattle.job.specs.declared.JobCheck.{JobCheck}
+use Rattle.job.specs.declared.JobCheck.the-variants.{Ready, Broken}
 
-module _ (c t : List ℕ) (least most : ℕ) (fs : List ℕ) where
-  pub inputs-first : (rest : Refusal) → (circuitRows c else row7 c t else row8 t else row9 least most fs else row10 c fs else rest) ≡ inputRows c t least most fs else rest
-  unfolding inputRows
-  inputs-first rest = simp else-assoc
+module _ {c t : List ℕ} {rows : Refusal} where
+  -- a job that is ready breaks no row
+  pub ready-none : {r : JobCheck} {j : Job} → JobChecked c t rows r → r ≡ Ready j → rows ≡ none
+  unfolding jobRefusalOf
+  ready-none checked e = sym (checked .refusal) ∙ ap jobRefusalOf e
 
-  pub inputs-middle : (row7 c t else row8 t else row9 least most fs else row10 c fs) ≡ (row7 c t else row8 t) else (row9 least most fs else row10 c fs)
-  inputs-middle = sym (else-assoc (row7 c t) (row8 t) _)
+  -- one that is not breaks the row that is named
+  pub broken-some : {r : JobCheck} {rule at : ℕ} → JobChecked c t rows r → r ≡ Broken rule at → rows ≡ some (rule, at)
+  unfolding jobRefusalOf
+  broken-some checked e = sym (checked .refusal) ∙ ap jobRefusalOf e
 
-  pub accepted : inputRows c t least most fs ≡ none → Accepted c t most fs
-  unfolding inputRows row9
-  accepted e =
-      let a = else-none (circuitRows c) _ e in
-      let b = else-none (row7 c t) _ (a .1) in
-      let d = else-none (row8 t) _ (b .1) in
-      let g = else-none (row9 least most fs) _ (d .1) in
-      record {
-        circuit = validCircuit c (a .0);
-        test = validTest c t (b .0) (d .0);
-        few = ltb-false most (faultCount fs) (or-right-false (not (eqb (length fs % 4) 0) || ltb (faultCount fs) least) _ (refuse-none _ 9 0 (g .0)));
-        fault = λ j h. validFault c fs j (g .1) h;
-      }
+  -- how a check's answer is made
+  pub is-ready : {j : Job} → rows ≡ none → JobOf c t j → JobChecked c t rows (Ready j)
+  unfolding jobRefusalOf
+  is-ready {j} e of = record { refusal = sym e; job = λ i same. let q : j ≡ i = cc in rw (← q) of }
 
-pub k-limit : (k : ℕ) → row12 k ≡ none → k ≤ 12
-unfolding row12
-k-limit k e = ltb-false 12 k (refuse-none _ 12 0 e)
+  pub is-broken : {rule at : ℕ} → rows ≡ some (rule, at) → JobChecked c t rows (Broken rule at)
+  unfolding jobRefusalOf
+  is-broken e = record { refusal = sym e; job = λ i same. let z : _≡_ {A = ℕ} 0 1 = cc in absurd (let w : ⊥ = omega arith in w) }
 
-pub area-limit : {units outputs flops : ℕ} → units ≤ 1024 → outputs ≤ 256 → flops ≤ 256 → units * (4 * outputs + 16 * flops + 8) ≤ 1024 * 5128
-area-limit u o f = mul-le-mul {m₂ = 5128} u (omega arith)
+module _ {c t : List ℕ} {rows : Refusal} where
+  -- what is broken stays broken, whatever is joined
+  pub stays-broken : {r : JobCheck} {rule at : ℕ} (more : Refusal) → JobChecked c t rows r → r ≡ Broken rule at → JobChecked c t (rows else more) (Broken rule at)
+  stays-broken more checked e = is-broken (else-found _ _ _ (broken-some checked e))
+
+  -- a later row is joined
+  pub joined : {before r : JobCheck} {later : Check} {more : Refusal} → JobChecked c t rows before → refusalOf later ≡ more → Unless before later r → JobChecked c t (rows else more) r
+  joined checked e u = record { refusal = u .refusal ∙ rw (checked .refusal, e); job = λ j ready. checked .job j (u .job j ready) }
+
+  -- a later row is joined that is asked of the sizes
+  pub joined-ready : {before r : JobCheck} {j : Job} {later : Check} {more : Refusal} → JobChecked c t rows before → before ≡ Ready j → (JobOf c t j → refusalOf later ≡ more) → Unless (Ready j) later r → JobChecked c t (rows else more) r
+  joined-ready checked e asked u = let job = checked .job _ e in joined (is-ready (ready-none checked e) job) (asked job) u
+
+pub regrouped : {c t : List ℕ} {r : JobCheck} (a b d : Refusal) → JobChecked c t ((a else b) else d) r → JobChecked c t (a else (b else d)) r
+regrouped a b d checked = rw (else-assoc a b d) at checked
+
+pub limited : (c t : List ℕ) (least most : ℕ) (fs : List ℕ) {j : Job} → inputRows c t least most fs ≡ none → JobOf c t j → Limited j
+limited c t least most fs e of =
+    let valid = validInputs c t least most fs e in
+    record {
+      lines = rw (of .lines) (valid .circuit .lines);
+      flops = rw (of .flops) (valid .circuit .flipFlops);
+      outputs = rw (of .outputs) (valid .circuit .outputs);
+      units = rw (of .units) (valid .test .most);
+    }
+
+-- the bytes that row 13 asks for, but for those of the lines
+pub area-limit : {j : Job} → Limited j → j .units * (4 * j .outputs + 16 * j .flops + 8) ≤ 1024 * 5128
+area-limit l = mul-le-mul {m₂ = 5128} (l .units) (omega (arith, l .outputs, l .flops))

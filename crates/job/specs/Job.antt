@@ -1,30 +1,28 @@
--- The rows that Simulate, Grade and Choose share, what a call's answer stands for, and the sizes of a job.
+-- What the answers of the checks and calls stand for, and the sizes of a job.
 use mathlib.Core.Path.{_≡_}
-use Prim.Native.Nat.{ℕ, _<_, _≤_}
 use mathlib.Core.List.{List}
+use mathlib.Core.Option.{none, some}
+use Prim.Native.Nat.{ℕ, _≤_}
 use Rattle.lists.specs.Scan.{_else_}
-use Rattle.model.specs.Inputs.{N, I, F, O, L, faultCount, faultAt}
-use Rattle.model.specs.Accepted.{ValidCircuit, ValidTest, ValidFault}
-use Rattle.model.specs.Refusals.{Refusal, Answer, done, refused, circuitRows, row7, row8, row9, row10}
+use Rattle.model.specs.Inputs.{N, I, F, O, L}
+use Rattle.model.specs.Refusals.{Refusal, Answer, done, refused}
+use Rattle.rules.specs.declared.Check.{Check}
+use Rattle.rules.specs.Check.{refusalOf}
 use Rattle.job.specs.declared.Job.{Job}
+use Rattle.job.specs.declared.JobCheck.{JobCheck}
+use Rattle.job.specs.declared.JobCheck.the-variants.{Ready, Broken}
 use Rattle.job.specs.declared.Outcome.{Outcome}
 use Rattle.job.specs.declared.Outcome.the-variants.{Done, Refused}
-
--- rows 1 to 10
-unfoldable pub inputRows : List ℕ → List ℕ → ℕ → ℕ → List ℕ → Refusal
-inputRows c t least most fs = circuitRows c else row7 c t else row8 t else row9 least most fs else row10 c fs
-
--- what they give where none is broken
-pub record Accepted (c t : List ℕ) (most : ℕ) (fs : List ℕ) : Type 0 where
-  pub circuit : ValidCircuit c
-  pub test : ValidTest c t
-  pub few : faultCount fs ≤ most
-  pub fault : (j : ℕ) → j < faultCount fs → ValidFault c (faultAt fs j)
 
 -- what each case stands for
 unfoldable pub answerOf : Outcome → Answer
 answerOf (Done size) = done size
 answerOf (Refused rule at) = refused rule at
+
+-- number and position of each case
+unfoldable pub jobRefusalOf : JobCheck → Refusal
+jobRefusalOf (Ready job) = none
+jobRefusalOf (Broken rule at) = some (rule, at)
 
 -- the sizes of a circuit and a test
 pub record JobOf (c t : List ℕ) (j : Job) : Type 0 where
@@ -34,7 +32,17 @@ pub record JobOf (c t : List ℕ) (j : Job) : Type 0 where
   pub outputs : j .outputs ≡ O c
   pub units : j .units ≡ L c t
 
--- rows 1, 6 and 7 bound them
+-- these rows, with the sizes where none is broken
+pub record JobChecked (c t : List ℕ) (rows : Refusal) (r : JobCheck) : Type 0 where
+  pub refusal : jobRefusalOf r ≡ rows
+  pub job : (j : Job) → r ≡ Ready j → JobOf c t j
+
+-- a later row joined to those before it
+pub record Unless (before : JobCheck) (later : Check) (r : JobCheck) : Type 0 where
+  pub refusal : jobRefusalOf r ≡ jobRefusalOf before else refusalOf later
+  pub job : (j : Job) → r ≡ Ready j → before ≡ Ready j
+
+-- rows 1, 6 and 7 bound the sizes
 pub record Limited (j : Job) : Type 0 where
   pub lines : j .lines ≤ 4096
   pub flops : j .flops ≤ 256

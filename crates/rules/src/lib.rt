@@ -1,20 +1,26 @@
 // Rows 1 to 6 of the table of refusals: what is wrong with a circuit. Rows are joined as the table joins them: the first that is broken.
-ghost use mathlib.Core.Bool.{cond, _&&_, _||_};
+ghost use mathlib.Core.Bool.{cond};
 ghost use mathlib.Core.List.{List};
 ghost use mathlib.Core.Path.{_≡_};
 ghost use Prim.Native.Nat.{ℕ, _+_, _*_, _≤_};
 ghost use lib.Dec.{leb};
 ghost use lib.ListN.{length};
-ghost use Rattle.lists.specs.Scan.{_else_, anyBelow, firstAnswer};
-ghost use Rattle.model.specs.Inputs.{N, kind, pinCount, isGate};
-ghost use Rattle.model.specs.Refusals.{refuse, row1, pinsFit, unusedNamed, strayBytes, misnames, rows2to5, row6, circuitRows};
+ghost use Rattle.lists.specs.Scan.{_else_, firstAnswer};
+ghost use Rattle.model.specs.Inputs.{N, kind, pinCount};
+ghost use Rattle.model.specs.Refusals.{refuse, row1, pinsFit, strayBytes, misnames, rows2to5, row6};
 ghost use Rattle.circuit.specs.Table.{SizesOf};
-ghost use Rattle.rules.specs.Check.{refusalOf};
+ghost use Rattle.rules.specs.Check.{refusalOf, CircuitChecked, namesFrom};
 use circuit::Sizes;
 
 // Whether a rule is broken, and if so its number and position.
 pub enum Check {
     Passed,
+    Broken { rule: u8, at: usize },
+}
+
+// The sizes of a circuit that rows 1 to 6 pass, or the row that it breaks.
+pub enum CircuitCheck {
+    Sized(Sizes),
     Broken { rule: u8, at: usize },
 }
 
@@ -52,29 +58,14 @@ fn pins_fit(k: u8, pins: usize) -> bool
     }
 }
 
-// Row 4's unused pins.
-fn unused_named(c: &[u8], n: usize, pins: usize) -> bool
-    requires { ⌜ (12 * n + 12 ≤ length (now c)) × (pins ≡ pinCount (now c) n) ⌝ }
-    ensures { λ r. ⌜ r ≡ anyBelow (λ i. unusedNamed (now (c .entry)) n i) 4 ⌝ }
+// Whether one of pins 1 to `to`, but for the first `from`, names line `limit` or a higher one.
+fn names_from(c: &[u8], n: usize, from: usize, to: usize, limit: usize) -> bool
+    requires { ⌜ (12 * n + 12 ≤ length (now c)) × (to ≤ 4) ⌝ }
+    ensures { λ r. ⌜ r ≡ namesFrom (now (c .entry)) n from to limit ⌝ }
 {
     let mut i: usize = 0;
-    while i < 4 {
-        if basics::both(pins <= i, 0 < circuit::pin_of(c, n, i + 1)) {
-            return true;
-        }
-        i += 1;
-    }
-    false
-}
-
-// Row 5: a pin may name a line below `limit`.
-fn misnames_from(c: &[u8], n: usize, pins: usize, limit: usize) -> bool
-    requires { ⌜ (12 * n + 12 ≤ length (now c)) × (pins ≡ pinCount (now c) n) × (pins ≤ 4) × (limit ≡ cond (isGate (now c) n) n (N (now c))) ⌝ }
-    ensures { λ r. ⌜ r ≡ misnames (now (c .entry)) n ⌝ }
-{
-    let mut i: usize = 0;
-    while i < pins {
-        if limit <= circuit::pin_of(c, n, i + 1) {
+    while i < to {
+        if basics::both(from <= i, limit <= circuit::pin_of(c, n, i + 1)) {
             return true;
         }
         i += 1;
@@ -94,12 +85,14 @@ fn check_pins(c: &[u8], lines: usize, n: usize, k: u8, pins: usize) -> Check
     requires { ⌜ (12 * n + 12 ≤ length (now c)) × (lines ≡ N (now c)) × (k ≡ kind (now c) n) × (pins ≡ pinCount (now c) n) × (pins ≤ 4) ⌝ }
     ensures { λ r. ⌜ refusalOf r ≡ (refuse (strayBytes (now (c .entry)) n) 4 n else refuse (misnames (now (c .entry)) n) 5 n) ⌝ }
 {
-    let spare = basics::either(
-        basics::either(1 < circuit::mark_of(c, n), 0 < circuit::spare_of(c, n)),
-        unused_named(c, n, pins),
+    let mark = circuit::field(c, n, circuit::MARK);
+    let spare = circuit::field(c, n, circuit::SPARE);
+    let stray = basics::either(
+        basics::either(1 < mark, 0 < spare),
+        names_from(c, n, pins, 4, 1),
     );
-    let wrong = misnames_from(c, n, pins, limit_of(k, lines, n));
-    Check::refuse(spare, 4, n).or(Check::refuse(wrong, 5, n))
+    let wrong = names_from(c, n, 0, pins, limit_of(k, lines, n));
+    Check::refuse(stray, 4, n).or(Check::refuse(wrong, 5, n))
 }
 
 // Rows 2 to 5.
@@ -107,7 +100,7 @@ fn check_record(c: &[u8], lines: usize, n: usize) -> Check
     requires { ⌜ (12 * n + 12 ≤ length (now c)) × (lines ≡ N (now c)) ⌝ }
     ensures { λ r. ⌜ refusalOf r ≡ rows2to5 (now (c .entry)) n ⌝ }
 {
-    let k = circuit::kind_of(c, n);
+    let k = circuit::field(c, n, circuit::KIND);
     let pins = circuit::pins_of(c, n);
     if 9 < k {
         return Check::Broken { rule: 2, at: n };
@@ -147,25 +140,23 @@ fn check_sizes(s: Sizes) -> Check
 }
 
 // Row 1.
-fn check_length(size: usize) -> Check
-    ensures { λ r. ⌜ ((c : List ℕ) → length c ≡ size → refusalOf r ≡ row1 c) ⌝ }
-{
-    Check::refuse(
-        basics::either(basics::either(size == 0, size % 12 != 0), 49152 < size),
-        1,
-        0,
-    )
-}
-
-// Rows 1 to 6.
-pub fn check_circuit(c: &[u8]) -> Check
-    ensures { λ r. ⌜ refusalOf r ≡ circuitRows (now (c .entry)) ⌝ }
+fn check_length(c: &[u8]) -> Check
+    ensures { λ r. ⌜ refusalOf r ≡ row1 (now (c .entry)) ⌝ }
 {
     let size = c.len();
-    let length = check_length(size);
-    if let Check::Broken { rule, at } = length {
-        return Check::Broken { rule, at };
+    let ragged = basics::either(size == 0, size % 12 != 0);
+    Check::refuse(basics::either(ragged, 49152 < size), 1, 0)
+}
+
+// Rows 1 to 6, and the sizes of a circuit that they pass.
+pub fn check_circuit(c: &[u8]) -> CircuitCheck
+    ensures { λ r. ⌜ CircuitChecked (now (c .entry)) r ⌝ }
+{
+    let lines = c.len() / 12;
+    let sizes = circuit::sizes_of(c, lines);
+    let rows = check_length(c).or(check_records(c, lines).or(check_sizes(sizes)));
+    match rows {
+        Check::Passed => CircuitCheck::Sized(sizes),
+        Check::Broken { rule, at } => CircuitCheck::Broken { rule, at },
     }
-    let lines = size / 12;
-    check_records(c, lines).or(check_sizes(circuit::sizes_of(c, lines)))
 }

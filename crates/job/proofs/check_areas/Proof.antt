@@ -1,25 +1,32 @@
-use mathlib.Core.Path.{_∙_}
+use native.Mathlib.Omega.{arith}
+use Rattle.model.specs.Refusals.{row13, row14, workBytes}
+use Rattle.job.proofs.Laws.{area-limit}
 use borrow.Author.Needs.{needs}
 use Rattle.job.proofs.check_areas.Statement.{statement}
 use Rattle.job.proofs.check_areas.Tie as tie
-use Rattle.job.proofs.check_areas.Reads as reads
-use Rattle.job.proofs.check_areas.Lts as lts
-use Rattle.job.proofs.check_result.Reads as check-result-reads
-use Rattle.job.proofs.check_work.Reads as check-work-reads
-use Rattle.rules.proofs.Check.or.Reads as or-reads
 
-check-work-requires : tie.Need-check-work-requires
-check-work-requires c κs = search needs
+mul-need-4 : tie.Need-mul-need-4
+mul-need-4 c = let l = c .before .before .before .before .pre in omega (arith, area-limit l)
 
-check-result-requires : tie.Need-check-result-requires
-check-result-requires c κs = search needs
-
-or-requires : tie.Need-or-requires
-or-requires c κs = search needs
+add-need-3 : tie.Need-add-need-3
+add-need-3 c = let l = c .before .before .before .before .pre in omega (arith, area-limit l)
 
 returns : tie.Need-returns
-returns c = λ cs ts j. c .or .ensures ∙ rw (c .before .before .check-work .ensures cs ts j, c .before .check-result .ensures)
+unfolding row13 row14 workBytes
+returns c = λ cs ts j. cc
 
 pub check-areas-spec : {M : Type 1} → statement M
 check-areas-spec =
-    tie.close (tie.spec check-work-requires check-result-requires or-requires returns)
+    tie.close
+    (tie.spec
+    (λ c. search needs)
+    (λ c. search needs)
+    (λ c. search needs)
+    (λ c. search needs)
+    (λ c. search needs)
+    mul-need-4
+    add-need-3
+    (λ c κs. tt)
+    (λ c κs. tt)
+    (λ c κs. tt)
+    returns)

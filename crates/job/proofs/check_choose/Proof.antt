@@ -1,92 +1,57 @@
-use mathlib.Core.Path.{_≡_, sym, ap, _∙_}
+use mathlib.Core.Path.{_≡_}
+use mathlib.Core.Option.{none}
 use native.Mathlib.Omega.{arith}
-use Rattle.model.specs.Refusals.{chooseRefusal}
-use Rattle.job.proofs.Laws.{inputs-first, accepted, k-limit}
-use Rattle.lists.proofs.Scan.{else-found, else-skips}
-use Rattle.rules.specs.Check.{refusalOf}
-use Rattle.rules.specs.declared.Check.the-variants.{Passed}
+use borrow.Author.Tests.{ltb-false}
+use Rattle.lists.specs.Scan.{_else_}
+use Rattle.lists.proofs.Scan.{else-none}
+use Rattle.model.specs.Refusals.{row12, inputRows, chooseRefusal}
+use Rattle.model.proofs.Accepted.{refuse-none}
+use Rattle.job.specs.Job.{JobOf, JobChecked, Limited}
+use Rattle.job.proofs.Laws.{ready-none, stays-broken, joined, joined-ready, regrouped, limited}
 use borrow.Author.Needs.{needs}
 use Rattle.job.proofs.check_choose.Statement.{statement}
 use Rattle.job.proofs.check_choose.Tie as tie
-use Rattle.job.proofs.check_choose.Reads as reads
-use Rattle.job.proofs.check_choose.Lts as lts
-use Rattle.job.proofs.check_areas.Reads as check-areas-reads
-use Rattle.job.proofs.check_inputs.Reads as check-inputs-reads
-use Rattle.job.proofs.check_k.Reads as check-k-reads
-use Rattle.job.proofs.job_of.Reads as job-of-reads
 
-check-inputs-requires : tie.Need-check-inputs-requires
-check-inputs-requires c κs = search needs
+abbrev inputs : tie.After-unless → tie.After-check-inputs
+inputs c = c .before .before
 
-enum-known-inputs : tie.Need-enum-known-inputs
-enum-known-inputs c = search needs
+abbrev start : tie.After-check-inputs → tie.Start
+start c = c .before .before .before .before
 
-returns : tie.Need-returns
-unfolding refusalOf chooseRefusal
-returns c =
-    sym (inputs-first _ _ _ _ _ _ ∙ else-found _ _ _ (sym (c .before .before .before .check-inputs .ensures) ∙ ap refusalOf (c .before .inputs .given .1)))
+checked : (c : tie.After-unless) → let s = start (inputs c) .args in JobChecked (s .c .now) (s .t .now) (inputRows (s .c .now) (s .t .now) 1 1 (s .fs .now) else row12 (s .k)) (c .unless .result)
+checked c = joined (inputs c .check-inputs .ensures) (c .before .check-k .ensures) (c .unless .ensures)
 
-enum-told : tie.Need-enum-told
-enum-told c = search needs
-
-check-k-requires : tie.Need-check-k-requires
-check-k-requires c κs = search needs
-
-enum-known-limit : tie.Need-enum-known-limit
-enum-known-limit c = search needs
-
-returns-2 : tie.Need-returns-2
-unfolding refusalOf chooseRefusal
-returns-2 c =
-    let told = c .before .before .before .before in
-    let passed : told .before .before .check-inputs .result ≡ Passed = told .enum-told .given .1 in
-    sym (inputs-first _ _ _ _ _ _ ∙ else-skips _ _ (sym (told .before .before .check-inputs .ensures) ∙ ap refusalOf passed)
-    ∙ else-found _ _ _ (sym (c .before .before .before .check-k .ensures) ∙ ap refusalOf (c .before .limit .given .1)))
-
-enum-told-2 : tie.Need-enum-told-2
-enum-told-2 c = search needs
-
-job-of-requires : tie.Need-job-of-requires
-unfolding refusalOf
-job-of-requires c κs =
-    let told = c .before .before .before in
-    let passed : told .before .before .check-inputs .result ≡ Passed = told .enum-told .given .1 in
-    let inputs = accepted _ _ _ _ _ (sym (told .before .before .check-inputs .ensures) ∙ ap refusalOf passed) in
-    (inputs .circuit, inputs .test)
+passed : (c : tie.After-rows2) → let s = start (inputs (c .before .before)) .args in (inputRows (s .c .now) (s .t .now) 1 1 (s .fs .now) ≡ none) × (row12 (s .k) ≡ none)
+passed c = else-none _ _ (ready-none (checked (c .before .before)) (c .rows2 .given .1))
 
 mul-check-areas : tie.Need-mul-check-areas
-unfolding refusalOf
-mul-check-areas c =
-    let few : c .before .before .before .check-k .result ≡ Passed = c .before .enum-told2 .given .1 in
-    omega (arith, k-limit _ (sym (c .before .before .before .check-k .ensures) ∙ ap refusalOf few))
+unfolding row12
+mul-check-areas c = omega (arith, ltb-false 12 (start (inputs (c .before .before .before)) .args .k) (refuse-none _ 12 0 (passed (c .before) .1)))
 
 check-areas-requires : tie.Need-check-areas-requires
-check-areas-requires c κs = search needs
+check-areas-requires c κs = limited _ _ _ _ _ (passed (c .before) .0) (checked (c .before .before .before) .job _ (c .before .rows2 .given .1))
 
-returns-3 : tie.Need-returns-3
-unfolding refusalOf chooseRefusal
-returns-3 c =
-    let limit = c .before .before .before .before in
-    let told = limit .before in
-    let passed : told .before .before .check-inputs .result ≡ Passed = told .enum-told .given .1 in
-    let few : limit .check-k .result ≡ Passed = c .before .before .enum-told2 .given .1 in
-    c .check-areas .ensures _ _ (c .before .job-of .ensures .0)
-    ∙ sym (inputs-first _ _ _ _ _ _ ∙ else-skips _ _ (sym (told .before .before .check-inputs .ensures) ∙ ap refusalOf passed)
-    ∙ else-skips _ _ (sym (limit .check-k .ensures) ∙ ap refusalOf few))
+returns : tie.Need-returns
+unfolding chooseRefusal
+returns c = regrouped _ _ _ (stays-broken _ (checked (c .before .before .before)) (c .before .rows .given .1))
+
+returns-2 : tie.Need-returns-2
+unfolding chooseRefusal
+returns-2 c =
+    let told = c .before .before .before in
+    regrouped _ _ _ (joined-ready (checked (told .before .before)) (told .rows2 .given .1) (c .before .check-areas .ensures _ _) (c .unless2 .ensures))
 
 pub check-choose-spec : {M : Type 1} → statement M
 check-choose-spec =
     tie.close
     (tie.spec
-    check-inputs-requires
-    enum-known-inputs
-    returns
-    enum-told
-    check-k-requires
-    enum-known-limit
-    returns-2
-    enum-told-2
-    job-of-requires
+    (λ c κs. tt)
+    (λ c κs. tt)
+    (λ c κs. tt)
+    (λ c. search needs)
+    (λ c. search needs)
     mul-check-areas
     check-areas-requires
-    returns-3)
+    (λ c κs. tt)
+    returns
+    returns-2)

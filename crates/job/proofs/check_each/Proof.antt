@@ -1,8 +1,10 @@
+-- The loop's invariant: the faults before fault j are as row 10 asks.
 use mathlib.Core.Path.{_≡_, refl, sym}
 use mathlib.Core.Bool.{not}
 use mathlib.Core.Option.{none}
-use Prim.Native.Nat.{_≤_, _-_}
+use Prim.Native.Nat.{_≤_, _-_, _/_}
 use native.Mathlib.Omega.{arith}
+use lib.ListN.{length}
 use Rattle.lists.specs.Scan.{firstAnswer}
 use Rattle.lists.proofs.Scan.{firstAnswer-turn, firstAnswer-stop}
 use Rattle.model.specs.Inputs.{faultAt, faultCount}
@@ -10,9 +12,6 @@ use Rattle.model.specs.Refusals.{refuse, faultFits, row10}
 use Rattle.rules.specs.Check.{refusalOf}
 use Rattle.job.proofs.check_each.Statement.{statement}
 use Rattle.job.proofs.check_each.Tie as tie
-use Rattle.job.proofs.check_each.Reads as reads
-use Rattle.job.proofs.check_each.Lts as lts
-use Rattle.job.proofs.fault_fits.Reads as fault-fits-reads
 
 abbrev Inv-loop : tie.InvT-loop
 Inv-loop c lines fs count j₀ j = (j ≤ count) × (firstAnswer (λ j. refuse (not (faultFits c (faultAt fs j))) 10 j) j ≡ none)
@@ -25,32 +24,24 @@ unfolding firstAnswer
 loop-holds c = (omega arith, refl)
 
 fault-fits-requires : tie.Need-fault-fits-requires Inv-loop μ-loop
-fault-fits-requires c κs =
-    let start = c .before .before .before .before in
-    (start .pre .0, start .pre .1, omega (arith, start .pre .2, c .loop-test .taken))
+fault-fits-requires c κs = let start = c .before .before .before .before in (start .pre .0, start .pre .1, omega arith)
 
 returns : tie.Need-returns Inv-loop μ-loop
-unfolding refusalOf refuse row10
+unfolding refusalOf refuse row10 faultCount
 returns c =
     let turn = c .before .before in
-    let start = turn .before .before .before .before in
-    rw (← (start .pre .3)) (sym (firstAnswer-stop _ _ _ _ (turn .before .loop .inv .1) (rw (← (c .before .fault-fits .ensures), c .if1 .taken)) (turn .loop-test .taken)))
-
-add-j : tie.Need-add-j Inv-loop μ-loop
-add-j c = omega (arith, c .before .before .loop-test .taken)
-
-loop-less : tie.Need-loop-less Inv-loop μ-loop
-loop-less c = omega (arith, c .before .before .loop-test .taken)
+    sym (firstAnswer-stop _ _ _ _ (turn .before .loop .inv .1) (rw (← c .before .fault-fits .ensures, c .if1 .taken)) (turn .loop-test .taken))
 
 loop-again : tie.Need-loop-again Inv-loop μ-loop
 unfolding refuse
-loop-again c = (omega (arith, c .before .before .loop-test .taken), firstAnswer-turn _ _ (c .before .before .before .loop .inv .1) (rw (← (c .before .fault-fits .ensures), c .if1 .left)))
+loop-again c =
+    let turn = c .before .before in
+    (omega arith, firstAnswer-turn _ _ (turn .before .loop .inv .1) (rw (← c .before .fault-fits .ensures, c .if1 .left)))
 
 returns-2 : tie.Need-returns-2 Inv-loop μ-loop
-unfolding refusalOf row10
+unfolding refusalOf row10 faultCount
 returns-2 c =
-    let start = c .before .before .before .before in
-    let end : faultCount (start .args .fs .now) ≡ c .before .loop .j = omega (arith, c .before .loop .inv .0, c .loop-test .left, start .pre .3) in
+    let end : length (c .before .before .before .before .args .fs .now) / 4 ≡ c .before .loop .j = omega arith in
     rw end (sym (c .before .loop .inv .1))
 
 pub check-each-spec : {M : Type 1} → statement M
@@ -62,7 +53,7 @@ check-each-spec =
     loop-holds
     fault-fits-requires
     returns
-    add-j
-    loop-less
+    (λ c. omega arith)
+    (λ c. omega arith)
     loop-again
     returns-2)

@@ -1,87 +1,59 @@
-use mathlib.Core.Path.{_≡_, sym, ap, _∙_}
+use mathlib.Core.Path.{_≡_}
+use mathlib.Core.Option.{none}
 use native.Mathlib.Omega.{arith}
+use Rattle.lists.specs.Scan.{_else_}
+use Rattle.lists.proofs.Scan.{else-none}
 use Rattle.model.specs.Inputs.{faultCount}
-use Rattle.model.specs.Refusals.{gradeRefusal}
-use Rattle.job.proofs.Laws.{inputs-first, accepted}
-use Rattle.lists.proofs.Scan.{else-found, else-skips}
-use Rattle.rules.specs.Check.{refusalOf}
-use Rattle.rules.specs.declared.Check.the-variants.{Passed}
+use Rattle.model.specs.Refusals.{row11, row12, inputRows, gradeRefusal}
+use Rattle.model.proofs.Accepted.{validInputs}
+use Rattle.job.specs.Job.{JobOf, JobChecked, Limited}
+use Rattle.job.proofs.Laws.{ready-none, stays-broken, joined, joined-ready, regrouped, limited}
 use borrow.Author.Needs.{needs}
 use Rattle.job.proofs.check_grade.Statement.{statement}
 use Rattle.job.proofs.check_grade.Tie as tie
-use Rattle.job.proofs.check_grade.Reads as reads
-use Rattle.job.proofs.check_grade.Lts as lts
-use Rattle.job.proofs.check_areas.Reads as check-areas-reads
-use Rattle.job.proofs.check_inputs.Reads as check-inputs-reads
-use Rattle.job.proofs.check_k.Reads as check-k-reads
-use Rattle.job.proofs.check_plan.Reads as check-plan-reads
-use Rattle.job.proofs.job_of.Reads as job-of-reads
-use Rattle.rules.proofs.Check.or.Reads as or-reads
 
-check-inputs-requires : tie.Need-check-inputs-requires
-check-inputs-requires c κs = search needs
+abbrev inputs : tie.After-unless2 → tie.After-check-inputs
+inputs c = c .before .before .before .before
 
-enum-known-inputs : tie.Need-enum-known-inputs
-enum-known-inputs c = search needs
+abbrev start : tie.After-check-inputs → tie.Start
+start c = c .before .before .before .before .before
 
-returns : tie.Need-returns
-unfolding refusalOf gradeRefusal
-returns c = λ p e.
-    sym (inputs-first _ _ _ _ _ _ ∙ else-found _ _ _ (sym (c .before .before .before .check-inputs .ensures) ∙ ap refusalOf (c .before .inputs .given .1)))
+checked : (c : tie.After-unless2) → let s = start (inputs c) .args in JobChecked (s .c .now) (s .t .now) ((inputRows (s .c .now) (s .t .now) 0 32768 (s .fs .now) else row11 (s .plan .now)) else row12 (s .k)) (c .unless2 .result)
+checked c = let plan = c .before .before in joined (joined (inputs c .check-inputs .ensures) (plan .before .check-plan .ensures) (plan .unless .ensures)) (c .before .check-k .ensures) (c .unless2 .ensures)
 
-enum-told : tie.Need-enum-told
-enum-told c = search needs
+passed : (c : tie.After-rows2) → let s = start (inputs (c .before .before)) .args in inputRows (s .c .now) (s .t .now) 0 32768 (s .fs .now) ≡ none
+passed c = else-none _ _ (else-none _ _ (ready-none (checked (c .before .before)) (c .rows2 .given .1)) .0) .0
 
-mul-size : tie.Need-mul-size
-unfolding refusalOf faultCount
-mul-size c =
-    let passed : c .before .before .check-inputs .result ≡ Passed = c .enum-told .given .1 in
-    omega (arith, accepted _ _ _ _ _ (sym (c .before .before .check-inputs .ensures) ∙ ap refusalOf passed) .few)
-
-job-of-requires : tie.Need-job-of-requires
-unfolding refusalOf
-job-of-requires c κs =
-    let passed : c .before .before .check-inputs .result ≡ Passed = c .enum-told .given .1 in
-    let inputs = accepted _ _ _ _ _ (sym (c .before .before .check-inputs .ensures) ∙ ap refusalOf passed) in
-    (inputs .circuit, inputs .test)
+mul-check-areas : tie.Need-mul-check-areas
+unfolding faultCount
+mul-check-areas c = omega (arith, validInputs _ _ _ _ _ (passed (c .before)) .few)
 
 check-areas-requires : tie.Need-check-areas-requires
-check-areas-requires c κs = search needs
+check-areas-requires c κs = limited _ _ _ _ _ (passed (c .before)) (checked (c .before .before .before) .job _ (c .before .rows2 .given .1))
 
-check-plan-requires : tie.Need-check-plan-requires
-check-plan-requires c κs = search needs
-
-check-k-requires : tie.Need-check-k-requires
-check-k-requires c κs = search needs
-
-or-requires : tie.Need-or-requires
-or-requires c κs = search needs
-
-or-requires-2 : tie.Need-or-requires-2
-or-requires-2 c κs = search needs
+returns : tie.Need-returns
+unfolding gradeRefusal faultCount
+returns c = regrouped _ _ _ (regrouped _ _ _ (stays-broken _ (checked (c .before .before .before)) (c .before .rows .given .1)))
 
 returns-2 : tie.Need-returns-2
-unfolding refusalOf gradeRefusal faultCount
-returns-2 c = λ p e.
-    let areas = c .before .before .before .before in
-    let told = areas .before .before in
-    let passed : told .before .before .check-inputs .result ≡ Passed = told .enum-told .given .1 in
-    c .or2 .ensures ∙ rw (c .before .or .ensures, c .before .before .check-k .ensures, c .before .before .before .check-plan .ensures p e, areas .check-areas .ensures _ _ (areas .before .job-of .ensures .0))
-    (sym (inputs-first _ _ _ _ _ _ ∙ else-skips _ _ (sym (told .before .before .check-inputs .ensures) ∙ ap refusalOf passed)))
+unfolding gradeRefusal faultCount
+returns-2 c =
+    let told = c .before .before .before in
+    regrouped _ _ _ (regrouped _ _ _ (joined-ready (checked (told .before .before)) (told .rows2 .given .1) (c .before .check-areas .ensures _ _) (c .unless3 .ensures)))
 
 pub check-grade-spec : {M : Type 1} → statement M
 check-grade-spec =
     tie.close
     (tie.spec
-    check-inputs-requires
-    enum-known-inputs
-    returns
-    enum-told
-    mul-size
-    job-of-requires
+    (λ c κs. tt)
+    (λ c κs. tt)
+    (λ c κs. tt)
+    (λ c κs. tt)
+    (λ c κs. tt)
+    (λ c. search needs)
+    (λ c. search needs)
+    mul-check-areas
     check-areas-requires
-    check-plan-requires
-    check-k-requires
-    or-requires
-    or-requires-2
+    (λ c κs. tt)
+    returns
     returns-2)

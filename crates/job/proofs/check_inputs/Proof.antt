@@ -1,89 +1,73 @@
-use mathlib.Core.Path.{_≡_, refl, sym, ap, _∙_}
+use mathlib.Core.Path.{_≡_, sym, ap, _∙_}
+use mathlib.Core.Option.{none}
+use Prim.Native.Nat.{_<_}
 use native.Mathlib.Omega.{arith}
-use Rattle.model.specs.Inputs.{N}
+use Rattle.lists.specs.Scan.{_else_}
+use Rattle.lists.proofs.Scan.{else-found}
+use Rattle.model.specs.Inputs.{L}
+use Rattle.model.specs.Refusals.{circuitRows, row7, row8, row9, row10, inputRows}
 use Rattle.model.proofs.Accepted.{validCircuit}
-use Rattle.job.specs.Job.{inputRows}
-use Rattle.job.proofs.Laws.{inputs-middle}
-use Rattle.lists.proofs.Scan.{else-found, else-skips}
-use Rattle.rules.specs.Check.{refusalOf}
-use Rattle.rules.specs.declared.Check.the-variants.{Passed}
+use Rattle.circuit.specs.Table.{SizesOf}
+use Rattle.rules.specs.Check.{refusalOf, circuitRefusalOf}
+use Rattle.job.proofs.Laws.{is-ready, is-broken, joined}
 use borrow.Author.Needs.{needs}
 use Rattle.job.proofs.check_inputs.Statement.{statement}
 use Rattle.job.proofs.check_inputs.Tie as tie
-use Rattle.job.proofs.check_inputs.Reads as reads
-use Rattle.job.proofs.check_inputs.Lts as lts
-use Rattle.circuit.proofs.sizes_of.Reads as sizes-of-reads
-use Rattle.job.proofs.check_faults.Reads as check-faults-reads
-use Rattle.job.proofs.check_test.Reads as check-test-reads
-use Rattle.rules.proofs.check_circuit.Reads as check-circuit-reads
 
-check-circuit-requires : tie.Need-check-circuit-requires
-check-circuit-requires c κs = search needs
+abbrev start : tie.After-check-circuit → tie.Start
+start c = c .before .before .before .before
 
-enum-known-circuit : tie.Need-enum-known-circuit
-enum-known-circuit c = search needs
+abbrev sized : tie.After-or → tie.After-s
+sized c = c .before .before .before .before
+
+abbrev faults : tie.After-or3 → tie.After-or
+faults c = c .before .before .before .before
+
+sizes : (c : tie.After-s) → SizesOf (start (c .before .before) .args .c .now) (c .s .given .0 .0)
+sizes c = c .before .before .check-circuit .ensures .sizes _ (c .s .given .1)
+
+passed : (c : tie.After-s) → circuitRows (start (c .before .before) .args .c .now) ≡ none
+unfolding circuitRefusalOf
+passed c = sym (c .before .before .check-circuit .ensures .refusal) ∙ ap circuitRefusalOf (c .s .given .1)
+
+some-input : (c : tie.After-s) → 0 < c .s .given .0 .0 .inputs
+some-input c = rw (sizes c .inputs) (validCircuit _ (passed c) .someInput)
+
+later : (c : tie.After-or3) → let s = start (sized (faults c) .before .before) .args in
+    refusalOf (c .or3 .result) ≡ (row7 (s .c .now) (s .t .now) else row8 (s .t .now) else row9 (s .least) (s .most) (s .fs .now) else row10 (s .c .now) (s .fs .now))
+later c = cc (c .before .before .before .check-units .ensures _ (sym (sizes (sized (faults c)) .inputs)))
+
+check-each-requires : tie.Need-check-each-requires
+check-each-requires c κs = let s = c .before .before in (rw (sizes s .lines) (validCircuit _ (passed s) .size), sizes s .lines)
 
 returns : tie.Need-returns
-unfolding refusalOf inputRows
-returns c = sym (else-found _ _ _ (sym (c .before .before .before .check-circuit .ensures) ∙ ap refusalOf (c .before .circuit .given .1)))
-
-enum-told : tie.Need-enum-told
-enum-told c = search needs
-
-sizes-of-requires : tie.Need-sizes-of-requires
-unfolding N
-sizes-of-requires c κs = (omega arith, refl)
-
-check-test-requires : tie.Need-check-test-requires
-unfolding refusalOf
-check-test-requires c κs =
-    let told = c .before in
-    let passed : told .before .before .check-circuit .result ≡ Passed = told .enum-told .given .1 in
-    let valid = validCircuit _ (sym (told .before .before .check-circuit .ensures) ∙ ap refusalOf passed) in
-    omega (arith, valid .someInput, c .sizes-of .ensures .inputs)
-
-enum-known-test : tie.Need-enum-known-test
-enum-known-test c = search needs
+unfolding circuitRefusalOf inputRows
+returns c = is-broken (else-found _ _ _ (sym (c .before .before .before .check-circuit .ensures .refusal) ∙ ap circuitRefusalOf (c .before .rule .given .1)))
 
 returns-2 : tie.Need-returns-2
-unfolding refusalOf inputRows
+unfolding inputRows L
 returns-2 c =
-    let test = c .before .before .before in
-    let told = test .before .before in
-    let passed : told .before .before .check-circuit .result ≡ Passed = told .enum-told .given .1 in
-    sym (else-skips _ _ (sym (told .before .before .check-circuit .ensures) ∙ ap refusalOf passed)
-    ∙ inputs-middle _ _ _ _ _ ∙ else-found _ _ _ (sym (test .check-test .ensures _ (sym (test .before .sizes-of .ensures .inputs))) ∙ ap refusalOf (c .before .test .given .1)))
-
-enum-told-2 : tie.Need-enum-told-2
-enum-told-2 c = search needs
-
-check-faults-requires : tie.Need-check-faults-requires
-unfolding N
-check-faults-requires c κs = (omega arith, refl)
-
-returns-3 : tie.Need-returns-3
-unfolding refusalOf inputRows
-returns-3 c =
-    let test = c .before .before .before in
-    let told = test .before .before in
-    let passed : told .before .before .check-circuit .result ≡ Passed = told .enum-told .given .1 in
-    let tested : test .check-test .result ≡ Passed = c .before .enum-told2 .given .1 in
-    c .check-faults .ensures
-    ∙ sym (else-skips _ _ (sym (told .before .before .check-circuit .ensures) ∙ ap refusalOf passed)
-    ∙ inputs-middle _ _ _ _ _ ∙ else-skips _ _ (sym (test .check-test .ensures _ (sym (test .before .sizes-of .ensures .inputs))) ∙ ap refusalOf tested))
+    let joins = c .before .before in
+    let s = sized (faults joins) in
+    joined
+    (is-ready (passed s) (record { lines = sizes s .lines; inputs = sizes s .inputs; flops = sizes s .flops; outputs = sizes s .outputs; units = rw (sizes s .inputs) }))
+    (later joins) (c .unless .ensures)
 
 pub check-inputs-spec : {M : Type 1} → statement M
 check-inputs-spec =
     tie.close
     (tie.spec
-    check-circuit-requires
-    enum-known-circuit
+    (λ c κs. tt)
+    (λ c. search needs)
+    (λ c. search needs)
+    (λ c κs. tt)
+    check-each-requires
+    (λ c κs. tt)
+    (λ c κs. some-input (sized c))
+    (λ c κs. tt)
+    (λ c κs. tt)
+    (λ c κs. tt)
+    (λ c. some-input (sized (faults (c .before))))
+    (λ c κs. tt)
     returns
-    enum-told
-    sizes-of-requires
-    check-test-requires
-    enum-known-test
-    returns-2
-    enum-told-2
-    check-faults-requires
-    returns-3)
+    returns-2)

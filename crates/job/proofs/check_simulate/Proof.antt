@@ -1,64 +1,46 @@
 use native.Mathlib.Nat.{mul-le-mul}
-use mathlib.Core.Path.{_≡_, sym, ap, _∙_}
 use native.Mathlib.Omega.{arith}
 use Rattle.model.specs.Refusals.{simulateRefusal}
-use Rattle.job.proofs.Laws.{inputs-first, accepted}
-use Rattle.lists.proofs.Scan.{else-found, else-skips}
-use Rattle.rules.specs.Check.{refusalOf}
-use Rattle.rules.specs.declared.Check.the-variants.{Passed}
+use Rattle.job.specs.Job.{JobOf, Limited}
+use Rattle.job.proofs.Laws.{ready-none, stays-broken, joined-ready, limited}
 use borrow.Author.Needs.{needs}
 use Rattle.job.proofs.check_simulate.Statement.{statement}
 use Rattle.job.proofs.check_simulate.Tie as tie
-use Rattle.job.proofs.check_simulate.Reads as reads
-use Rattle.job.proofs.check_simulate.Lts as lts
-use Rattle.job.proofs.check_areas.Reads as check-areas-reads
-use Rattle.job.proofs.check_inputs.Reads as check-inputs-reads
-use Rattle.job.proofs.job_of.Reads as job-of-reads
 
-check-inputs-requires : tie.Need-check-inputs-requires
-check-inputs-requires c κs = search needs
+abbrev ready : tie.After-struct-known → tie.After-rows2
+ready c = c .before .before
 
-enum-known-inputs : tie.Need-enum-known-inputs
-enum-known-inputs c = search needs
+abbrev start : tie.After-check-inputs → tie.Start
+start c = c .before .before .before .before
+
+job : (c : tie.After-rows2) → JobOf (start (c .before .before) .args .c .now) (start (c .before .before) .args .t .now) (c .rows2 .given .0 .0)
+job c = c .before .before .check-inputs .ensures .job _ (c .rows2 .given .1)
+
+limits : (c : tie.After-rows2) → Limited (c .rows2 .given .0 .0)
+limits c = limited _ _ _ _ _ (ready-none (c .before .before .check-inputs .ensures) (c .rows2 .given .1)) (job c)
+
+mul-check-areas : tie.Need-mul-check-areas
+mul-check-areas c = let l = limits (ready c) in omega (arith, mul-le-mul (l .units) (l .outputs))
 
 returns : tie.Need-returns
-unfolding refusalOf simulateRefusal
-returns c =
-    sym (inputs-first _ _ _ _ _ _ ∙ else-found _ _ _ (sym (c .before .before .before .check-inputs .ensures) ∙ ap refusalOf (c .before .inputs .given .1)))
-
-enum-told : tie.Need-enum-told
-enum-told c = search needs
-
-job-of-requires : tie.Need-job-of-requires
-unfolding refusalOf
-job-of-requires c κs =
-    let passed : c .before .before .check-inputs .result ≡ Passed = c .enum-told .given .1 in
-    let inputs = accepted _ _ _ _ _ (sym (c .before .before .check-inputs .ensures) ∙ ap refusalOf passed) in
-    (inputs .circuit, inputs .test)
-
-mul-size : tie.Need-mul-size
-mul-size c = let j = c .before .job-of .ensures .1 in omega (arith, mul-le-mul (j .units) (j .outputs))
-
-check-areas-requires : tie.Need-check-areas-requires
-check-areas-requires c κs = c .before .job-of .ensures .1
+unfolding simulateRefusal
+returns c = stays-broken _ (c .before .before .before .check-inputs .ensures) (c .before .rows .given .1)
 
 returns-2 : tie.Need-returns-2
-unfolding refusalOf simulateRefusal
+unfolding simulateRefusal
 returns-2 c =
-    let told = c .before .before .before in
-    let passed : told .before .before .check-inputs .result ≡ Passed = told .enum-told .given .1 in
-    let job = c .before .before .job-of .ensures .0 in
-    c .check-areas .ensures _ _ job ∙ rw (job .units, job .outputs) (sym (inputs-first _ _ _ _ _ _ ∙ else-skips _ _ (sym (told .before .before .check-inputs .ensures) ∙ ap refusalOf passed)))
+    let told = ready (c .before .before) in
+    rw (← job told .units, ← job told .outputs) (joined-ready (told .before .before .check-inputs .ensures) (told .rows2 .given .1) (c .before .check-areas .ensures _ _) (c .unless .ensures))
 
 pub check-simulate-spec : {M : Type 1} → statement M
 check-simulate-spec =
     tie.close
     (tie.spec
-    check-inputs-requires
-    enum-known-inputs
+    (λ c κs. tt)
+    (λ c. search needs)
+    (λ c. search needs)
+    mul-check-areas
+    (λ c κs. limits (ready c))
+    (λ c κs. tt)
     returns
-    enum-told
-    job-of-requires
-    mul-size
-    check-areas-requires
     returns-2)

@@ -1,37 +1,32 @@
+use mathlib.Core.Path.{_≡_}
+use mathlib.Core.Bool.{true, false}
+use lib.Dec.{ltb}
 use borrow.Author.Tests.{lt-ltb, le-ltb}
-use mathlib.Core.Path.{_∙_}
+use Rattle.model.specs.Inputs.{N, faultAt}
 use Rattle.model.specs.Refusals.{faultFits}
 use borrow.Author.Needs.{needs}
 use Rattle.job.proofs.fault_fits.Statement.{statement}
 use Rattle.job.proofs.fault_fits.Tie as tie
-use Rattle.job.proofs.fault_fits.Reads as reads
-use Rattle.job.proofs.fault_fits.Lts as lts
-use Rattle.circuit.proofs.fault_of.Reads as fault-of-reads
-use Rattle.circuit.proofs.pins_of.Reads as pins-of-reads
-use Rattle.basics.proofs.both.Reads as both-reads
 
-fault-of-requires : tie.Need-fault-of-requires
-fault-of-requires c κs = search needs
+abbrev start : tie.After-struct-known → tie.Start
+start c = c .before .before .before .before
 
-pins-of-requires : tie.Need-pins-of-requires
-pins-of-requires c κs = search needs
-
-both-requires : tie.Need-both-requires
-both-requires c κs = search needs
+abbrev inside : tie.After-both → tie.Then1
+inside c = c .before .before .before .before
 
 returns : tie.Need-returns
 unfolding faultFits
 returns c =
-    let told = c .before .before .before .before .before in
-    let f = told .before .fault-of .ensures in
-    c .both .ensures ∙ rw (c .before .before .before .pins-of .ensures .0, ← (f .line), ← (f .pin), ← (f .value), ← (told .before .before .before .before .pre .1), lt-ltb _ _ (c .before .before .before .before .if1 .taken))
+    let s = start (inside c .before) .args in
+    let low : ltb (faultAt (s .fs .now) (s .j) .line) (N (s .c .now)) ≡ true = cc (lt-ltb _ _ (inside c .if1 .taken)) in
+    rw low (cc)
 
 returns-2 : tie.Need-returns-2
 unfolding faultFits
 returns-2 c =
-    let f = c .before .before .fault-of .ensures in
-    rw (← (f .line), ← (c .before .before .before .before .before .pre .1), le-ltb _ _ (c .if1 .left))
+    let s = start (c .before) .args in
+    let high : ltb (faultAt (s .fs .now) (s .j) .line) (N (s .c .now)) ≡ false = cc (le-ltb _ _ (c .if1 .left)) in
+    rw high
 
 pub fault-fits-spec : {M : Type 1} → statement M
-fault-fits-spec =
-    tie.close (tie.spec fault-of-requires pins-of-requires both-requires returns returns-2)
+fault-fits-spec = tie.close (tie.spec (λ c κs. search needs) (λ c κs. search needs) (λ c κs. tt) returns returns-2)

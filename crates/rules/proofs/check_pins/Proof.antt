@@ -1,82 +1,62 @@
-use mathlib.Core.Path.{_∙_}
-use Rattle.model.specs.Inputs.{isGate}
-use Rattle.model.specs.Refusals.{strayBytes}
+use mathlib.Core.Path.{_≡_, refl}
+use mathlib.Core.Bool.{cond}
+use mathlib.Core.List.{List}
+use Prim.Native.Nat.{ℕ}
+use lib.Dec.{leb·zero}
+use Rattle.lists.specs.Scan.{anyBelow}
+use Rattle.model.specs.Inputs.{N, pinCount, isGate}
+use Rattle.model.specs.Refusals.{strayBytes, unusedNamed, misnames, misnamed}
+use Rattle.rules.specs.Check.{namesFrom}
 use borrow.Author.Needs.{needs}
 use Rattle.rules.proofs.check_pins.Statement.{statement}
 use Rattle.rules.proofs.check_pins.Tie as tie
-use Rattle.rules.proofs.check_pins.Reads as reads
-use Rattle.rules.proofs.check_pins.Lts as lts
-use Rattle.rules.proofs.Check.or.Reads as or-reads
-use Rattle.rules.proofs.Check.refuse.Reads as refuse-reads
-use Rattle.basics.proofs.either.Reads as either-reads
-use Rattle.rules.proofs.limit_of.Reads as limit-of-reads
-use Rattle.circuit.proofs.mark_of.Reads as mark-of-reads
-use Rattle.rules.proofs.misnames_from.Reads as misnames-from-reads
-use Rattle.circuit.proofs.spare_of.Reads as spare-of-reads
-use Rattle.rules.proofs.unused_named.Reads as unused-named-reads
 
-mark-of-requires : tie.Need-mark-of-requires
-mark-of-requires c κs = search needs
+abbrev read : tie.After-or → tie.After-field2
+read c = c .before .before .before .before .before .before .before .before
 
-spare-of-requires : tie.Need-spare-of-requires
-spare-of-requires c κs = search needs
+unused-pins : (c : List ℕ) (n : ℕ) → anyBelow (λ i. unusedNamed c n i) 4 ≡ namesFrom c n (pinCount c n) 4 1
+unfolding unusedNamed namesFrom
+unused-pins c n = refl
 
-either-requires : tie.Need-either-requires
-either-requires c κs = search needs
+used-pins : (c : List ℕ) (n : ℕ) → misnames c n ≡ namesFrom c n 0 (pinCount c n) (cond (isGate c n) n (N c))
+unfolding misnames misnamed namesFrom
+used-pins c n = simp leb·zero
 
-unused-named-requires : tie.Need-unused-named-requires
-unused-named-requires c κs = search needs
+field-requires : tie.Need-field-requires
+field-requires c κs = search needs
 
-either-requires-2 : tie.Need-either-requires-2
-either-requires-2 c κs = search needs
+field-requires-2 : tie.Need-field-requires-2
+field-requires-2 c κs = search needs
 
-limit-of-requires : tie.Need-limit-of-requires
-limit-of-requires c κs = search needs
+names-from-requires : tie.Need-names-from-requires
+names-from-requires c κs = search needs
 
-misnames-from-requires : tie.Need-misnames-from-requires
-unfolding isGate
-misnames-from-requires c κs =
-    let pre = c .before .before .before .before .before .before .before .pre in
-    (pre .0, pre .3, pre .4, c .limit-of .ensures ∙ rw (pre .1, pre .2))
-
-refuse-requires : tie.Need-refuse-requires
-refuse-requires c κs = search needs
-
-refuse-requires-2 : tie.Need-refuse-requires-2
-refuse-requires-2 c κs = search needs
-
-or-requires : tie.Need-or-requires
-or-requires c κs = search needs
+names-from-requires-2 : tie.Need-names-from-requires-2
+names-from-requires-2 c κs = search needs
 
 returns : tie.Need-returns
-unfolding strayBytes
+unfolding strayBytes isGate
 returns c =
-    let spare = c .before .before .before .before .before .either2 .ensures in
-    let marks = c .before .before .before .before .before .before .before .either .ensures in
-    c .or .ensures
-    ∙ rw (
-      c .before .before .refuse .ensures,
-      c .before .refuse2 .ensures,
-      c .before .before .before .misnames-from .ensures,
-      spare,
-      marks,
-      c .before .before .before .before .before .before .unused-named .ensures,
-      c .before .before .before .before .before .before .before .before .spare-of .ensures,
-      c .before .before .before .before .before .before .before .before .before .mark-of .ensures,
+    let start = read c .before .before .before in
+    cc (
+      read c .before .field .ensures .mark refl,
+      read c .field2 .ensures .spare refl,
+      unused-pins (start .args .c .now) (start .args .n),
+      used-pins (start .args .c .now) (start .args .n),
     )
 
 pub check-pins-spec : {M : Type 1} → statement M
 check-pins-spec =
     tie.close
     (tie.spec
-    mark-of-requires
-    spare-of-requires
-    either-requires
-    unused-named-requires
-    either-requires-2
-    limit-of-requires
-    misnames-from-requires
-    refuse-requires
-    refuse-requires-2
-    or-requires
+    field-requires
+    field-requires-2
+    (λ c κs. tt)
+    names-from-requires
+    (λ c κs. tt)
+    (λ c κs. tt)
+    names-from-requires-2
+    (λ c κs. tt)
+    (λ c κs. tt)
+    (λ c κs. tt)
     returns)

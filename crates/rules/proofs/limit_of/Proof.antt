@@ -1,8 +1,6 @@
 use borrow.Author.Tests.{le-leb, lt-leb}
 use Rattle.rules.proofs.limit_of.Statement.{statement}
 use Rattle.rules.proofs.limit_of.Tie as tie
-use Rattle.rules.proofs.limit_of.Reads as reads
-use Rattle.rules.proofs.limit_of.Lts as lts
 
 returns : tie.Need-returns
 returns c = rw (le-leb _ _ (c .if1 .taken))

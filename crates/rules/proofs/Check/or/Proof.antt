@@ -5,14 +5,6 @@ use Rattle.rules.specs.Check.{refusalOf}
 use borrow.Author.Needs.{needs}
 use Rattle.rules.proofs.Check.or.Statement.{statement}
 use Rattle.rules.proofs.Check.or.Tie as tie
-use Rattle.rules.proofs.Check.or.Reads as reads
-use Rattle.rules.proofs.Check.or.Lts as lts
-
-enum-told : tie.Need-enum-told
-enum-told c = search needs
-
-enum-known-first : tie.Need-enum-known-first
-enum-known-first c = search needs
 
 returns : tie.Need-returns
 unfolding refusalOf _else_
@@ -23,4 +15,4 @@ unfolding refusalOf _else_
 returns-2 c = rw (c .before .first .given .1)
 
 pub or-spec : {M : Type 1} → statement M
-or-spec = tie.close (tie.spec enum-told enum-known-first returns returns-2)
+or-spec = tie.close (tie.spec (λ c. search needs) (λ c. search needs) returns returns-2)

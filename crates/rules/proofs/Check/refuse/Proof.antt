@@ -2,8 +2,6 @@ use Rattle.model.specs.Refusals.{refuse}
 use Rattle.rules.specs.Check.{refusalOf}
 use Rattle.rules.proofs.Check.refuse.Statement.{statement}
 use Rattle.rules.proofs.Check.refuse.Tie as tie
-use Rattle.rules.proofs.Check.refuse.Reads as reads
-use Rattle.rules.proofs.Check.refuse.Lts as lts
 
 returns : tie.Need-returns
 unfolding refusalOf refuse

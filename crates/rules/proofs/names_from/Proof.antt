@@ -1,0 +1,62 @@
+-- The loop's invariant: none of the pins before pin i + 1 names too high a line.
+use mathlib.Core.Path.{_≡_, refl, sym, _∙_}
+use mathlib.Core.Bool.{false}
+use Prim.Native.Nat.{_≤_, _-_}
+use native.Mathlib.Omega.{arith}
+use Rattle.lists.specs.Scan.{anyBelow}
+use Rattle.lists.proofs.Scan.{anyBelow-turn, anyBelow-stop}
+use Rattle.rules.specs.Check.{namesFrom}
+use Rattle.rules.proofs.names_from.Statement.{statement}
+use Rattle.rules.proofs.names_from.Tie as tie
+
+abbrev Inv-loop : tie.InvT-loop
+Inv-loop c n from to limit i₀ i = (i ≤ to) × (namesFrom c n from i limit ≡ false)
+
+abbrev μ-loop : tie.MeasureT-loop
+μ-loop c n from to limit i₀ i = to - i
+
+abbrev turn : tie.After-both Inv-loop μ-loop → tie.In-loop Inv-loop μ-loop
+turn c = c .before .before
+
+loop-holds : tie.Need-loop-holds Inv-loop μ-loop
+unfolding namesFrom anyBelow
+loop-holds c = (omega arith, refl)
+
+add-pin-of : tie.Need-add-pin-of Inv-loop μ-loop
+add-pin-of c = omega arith
+
+pin-of-requires : tie.Need-pin-of-requires Inv-loop μ-loop
+pin-of-requires c κs = (omega arith, omega arith, omega arith)
+
+returns : tie.Need-returns Inv-loop μ-loop
+unfolding namesFrom
+returns c = sym (anyBelow-stop _ _ _ (cc) (turn (c .before) .loop-test .taken))
+
+add-i : tie.Need-add-i Inv-loop μ-loop
+add-i c = omega arith
+
+loop-less : tie.Need-loop-less Inv-loop μ-loop
+loop-less c = omega arith
+
+loop-again : tie.Need-loop-again Inv-loop μ-loop
+unfolding namesFrom
+loop-again c = (omega arith, anyBelow-turn _ _ (turn (c .before) .before .loop .inv .1) (cc))
+
+returns-2 : tie.Need-returns-2 Inv-loop μ-loop
+returns-2 c = let end : c .before .before .before .args .to ≡ c .before .loop .i = omega arith in cc
+
+pub names-from-spec : {M : Type 1} → statement M
+names-from-spec =
+    tie.close
+    (tie.spec
+    Inv-loop
+    μ-loop
+    loop-holds
+    add-pin-of
+    pin-of-requires
+    (λ c κs. tt)
+    returns
+    add-i
+    loop-less
+    loop-again
+    returns-2)
