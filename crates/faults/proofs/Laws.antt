@@ -1,238 +1,124 @@
 -- A row is opened for a line, and the fault is stored in its lanes.
-use mathlib.Core.Path.{_≡_, refl, ap, sym, _∙_}
-use mathlib.Core.Bool.{Bool, true, false, cond, and-false}
+use mathlib.Core.Path.{_≡_, refl, sym, _∙_}
+use mathlib.Core.Bool.{false, cond}
 use mathlib.Core.List.{List}
 use Prim.Native.Nat.{ℕ, suc, _+_, _*_, _<_, _≤_}
 use native.Mathlib.Omega.{arith}
 use native.Mathlib.Decide.{decLe}
-use borrow.Author.Tests.{eq-eqb, ne-eqb, eqb-true}
+use borrow.Author.Tests.{eq-eqb, ne-eqb}
 use lib.Dec.{eqb}
 use lib.ListN.{length, getD, set, length-set, replicate, length-replicate, getD-replicate, List·getD-eq-default}
 use lib.Seq.{getD-set-same, getD-set-other}
-use Rattle.lists.proofs.Tests.{by-test, by-eq}
+use Rattle.lists.proofs.Tests.{by-eq}
 use Rattle.model.specs.Inputs.{Fault}
 use Rattle.model.specs.Values.{X}
 use Rattle.model.specs.Simulation.{noFault, isStuck, seen}
-use Rattle.lanes.specs.Lane.{Shows}
-use Rattle.lanes.proofs.Laws.{shows-x}
-use Rattle.unit.specs.Unit.{Stuck}
-use Rattle.faults.specs.Given.{Blank, OnlyAt, InRows}
+use Rattle.model.proofs.Implication.{unstuck}
+use Rattle.lanes.specs.declared.Lanes.{Lanes}
+use Rattle.lanes.specs.Lane.{Holds, At, lanesAt, allX, stored, Room}
+use Rattle.lanes.proofs.Laws.{shows-x, stored-other, stored-same, holds-as}
+use Rattle.unit.specs.Unit.{Stuck, MaskRoom}
+use Rattle.faults.specs.Given.{Blank, OnlyAt, Within, InRows, OneMore}
 
--- a 0 is stored
-pub set-zero : (ws : List ℕ) (i k : ℕ) → i < length ws → ((k ≡ i → ⊥) → getD ws k 0 ≡ 0) → getD (set ws i 0) k 0 ≡ 0
-set-zero ws i k l h = by-eq k i (λ e. rw e (getD-set-same ws i 0 0 l)) (λ e. getD-set-other ws i k 0 0 e ∙ h e)
+-- ---- a byte, and a place, is cleared
+pub set-zero : (bs : List ℕ) (i k : ℕ) → i < length bs → ((k ≡ i → ⊥) → getD bs k 0 ≡ 0) → getD (set bs i 0) k 0 ≡ 0
+set-zero bs i k l h = by-eq k i (λ e. rw e (getD-set-same bs i 0 0 l)) (λ e. getD-set-other bs i k 0 0 e ∙ h e)
+
+stored-X : (ws : List ℕ) (i k : ℕ) → Room (i + 1) ws → ((k ≡ i → ⊥) → lanesAt ws k ≡ allX) → lanesAt (stored ws i allX) k ≡ allX
+stored-X ws i k l h = by-eq k i (λ e. rw e (stored-same ws i allX l)) (λ e. stored-other ws i k allX e ∙ h e)
+
+holds-X : (t : ℕ) (ws : List ℕ) (m : ℕ) → lanesAt ws m ≡ allX → At t ws m X
+holds-X t ws m e = holds-as t _ _ _ e (shows-x t 2 (omega arith))
+
+module _ (a b : ℕ) (ws : List ℕ) (old : Within a b ws) where
+  pub within-less : (a′ : ℕ) (ws′ : List ℕ) → a′ ≡ a + 1 → ws′ ≡ stored ws a allX → Room (a + 1) ws → Within a′ b ws′
+  within-less a′ ws′ e w l = record { outside = λ m h. rw w (stored-X ws a m l (λ ne. old .outside m (λ p q. h (omega arith) q))) }
+
+  pub within-none : b ≤ a → (m : ℕ) → lanesAt ws m ≡ allX
+  within-none h m = old .outside m (λ p q. omega arith)
 
 -- ---- a fault, and the places where it is not
-seen-other : (f : Fault) (n p v : ℕ) → isStuck f n p ≡ false → seen f n p v ≡ v
-unfolding seen
-seen-other f n p v e = rw e
-
 module _ (f : Fault) (n p : ℕ) where
-  stuck-here : f .line ≡ n → f .pin ≡ p → isStuck f n p ≡ true
-  unfolding isStuck
-  stuck-here e g = rw (eq-eqb (f .line) n e, eq-eqb (f .pin) p g)
+  seen-here : f .line ≡ n → f .pin ≡ p → seen f n p X ≡ f .value
+  unfolding seen isStuck
+  seen-here e g = rw (eq-eqb (f .line) n e, eq-eqb (f .pin) p g)
 
-  stuck-line : (f .line ≡ n → ⊥) → isStuck f n p ≡ false
+  not-stuck : (f .line ≡ n → f .pin ≡ p → ⊥) → isStuck f n p ≡ false
   unfolding isStuck
-  stuck-line h = rw (ne-eqb (f .line) n h)
-
-  stuck-pin : (f .pin ≡ p → ⊥) → isStuck f n p ≡ false
-  unfolding isStuck
-  stuck-pin h = rw (ne-eqb (f .pin) p h) (and-false (eqb (f .line) n))
+  not-stuck h = by-eq (f .line) n
+      (λ e. rw (eq-eqb (f .line) n e, ne-eqb (f .pin) p (h e)))
+      (λ e. rw (ne-eqb (f .line) n e))
 
 stuck-none : (n p : ℕ) → n < 65536 → isStuck noFault n p ≡ false
 unfolding noFault
-stuck-none n p h = stuck-line noFault n p (λ e. omega arith)
+stuck-none n p h = not-stuck noFault n p (λ e g. omega arith)
 
 -- ---- nothing is given yet
--- a lane whose fault is on none of the lines
-blank-lane : (t : ℕ) (hits masks : List ℕ) (f : Fault) → Blank hits masks → t < 64 → f .value < 2 → ((n p : ℕ) → n < length hits → isStuck f n p ≡ false)
-    → Stuck t hits masks f
-blank-lane t hits masks f b h v e = record {
-  lane = h;
-  at = λ n l. record { binary = v; free = λ z p. e n p l; held = λ z p q. absurd (z (b .rows n)) };
-}
+module _ (hits masks : List ℕ) (b : Blank hits masks) where
+  none-stuck : (t : ℕ) → t < 64 → length hits ≤ 65536 → Stuck t hits masks noFault
+  none-stuck t h l = record {
+    lane = h;
+    at = λ n k. record { binary = binary; free = λ z p. stuck-none n p (omega arith); held = λ z p q. absurd (z (b .rows n)) };
+  }
+    where
+      binary : noFault .value < 2
+      binary = unfold noFault in omega arith
+
+  pub blank-rows : (faults : ℕ → Fault) → length hits ≤ 65536 → ((s : ℕ) → faults s ≡ noFault) → InRows 0 hits masks faults
+  blank-rows faults l none = record {
+    rows = λ n. omega (arith, b .rows n);
+    apart = λ n m e z. absurd (z (b .rows n));
+    places = record { outside = λ m h. b .places m };
+    lanes = λ s h. rw (none s) (none-stuck s h l);
+  }
 
 pub blank-stuck : (t : ℕ) (hits masks : List ℕ) → Blank hits masks → t < 64 → length hits ≤ 65536 → Stuck t hits masks noFault
-unfolding noFault
-blank-stuck t hits masks b h l = blank-lane t hits masks noFault b h (omega arith) (λ n p q. stuck-none n p (omega arith))
+blank-stuck t hits masks b h l = none-stuck hits masks b t h l
 
-pub blank-rows : (hits masks : List ℕ) (faults : ℕ → Fault) → Blank hits masks → ((s : ℕ) → s < 64 → Stuck s hits masks (faults s)) → InRows 0 hits masks faults
-blank-rows hits masks faults b h = record {
-  rows = λ n. omega (arith, b .rows n);
-  apart = λ n m e z. absurd (z (b .rows n));
-  words = record { below = λ i l. b .words i; above = λ i l. b .words i };
-  lanes = h;
-}
-
--- ---- a row is opened for a line that has none
-module _ (r : ℕ) (hits masks : List ℕ) (faults : ℕ → Fault) (line : ℕ) (l : line < length hits) (z : getD hits line 0 ≡ 0) (b : InRows r hits masks faults) where
-  here : getD (set hits line (r + 1)) line 0 ≡ r + 1
-  here = getD-set-same hits line (r + 1) 0 l
-
-  there : (n : ℕ) → (n ≡ line → ⊥) → getD (set hits line (r + 1)) n 0 ≡ getD hits n 0
-  there n h = getD-set-other hits line n (r + 1) 0 h
-
-  new-row : (n : ℕ) → n ≡ line → getD (set hits line (r + 1)) n 0 ≡ r + 1
-  new-row n e = rw e here
-
-  inside : (n : ℕ) → n < length (set hits line (r + 1)) → n < length hits
-  inside n h = omega (arith, length-set hits line (r + 1))
-
-  opened : InRows (r + 1) (set hits line (r + 1)) masks faults
-  opened = record {
-    rows = λ n. by-eq n line (λ e. rw (new-row n e) (omega arith)) (λ e. rw (there n e) (omega (arith, b .rows n)));
-    apart = λ n m. by-eq n line
-        (λ e. by-eq m line (λ g h k. e ∙ sym g)
-        (λ g h k. absurd (let q : r + 1 ≡ getD hits m 0 = sym (new-row n e) ∙ h ∙ there m g in let w : ⊥ = omega (arith, b .rows m) in w)))
-        (λ e. by-eq m line
-        (λ g h k. absurd (let q : getD hits n 0 ≡ r + 1 = sym (there n e) ∙ h ∙ new-row m g in let w : ⊥ = omega (arith, b .rows n) in w))
-        (λ g h k. b .apart n m (sym (there n e) ∙ h ∙ there m g) (λ q. k (there n e ∙ q))));
-    words = record { below = b .words .below; above = λ i h. b .words .above i (omega arith) };
-    lanes = λ s h. let old = b .lanes s h in record {
-      lane = h;
-      at = λ n k. record {
-        binary = old .at n (inside n k) .binary;
-        free = λ e p. by-eq n line
-            (λ g. absurd (let q : r + 1 ≡ 0 = sym (new-row n g) ∙ e in let w : ⊥ = omega arith in w))
-            (λ g. old .at n (inside n k) .free (sym (there n g) ∙ e) p);
-        held = λ e p q. by-eq n line
-            (λ g. rw (
-              new-row n g,
-              b .words .above (2 * (5 * (r + 1) + p)) (omega arith),
-              b .words .above (2 * (5 * (r + 1) + p) + 1) (omega arith),
-              seen-other (faults s) n p X (old .at n (inside n k) .free (rw g z) p),
-            ) (shows-x s 2 (omega arith)))
-            (λ g. rw (there n g) (old .at n (inside n k) .held (λ w. e (there n g ∙ w)) p q));
-      };
-    };
-  }
-
--- ---- two words are stored
-module _ (ws : List ℕ) (a z o : ℕ) where
-  put-other : (i : ℕ) → (i ≡ a → ⊥) → (i ≡ a + 1 → ⊥) → getD (set (set ws a z) (a + 1) o) i 0 ≡ getD ws i 0
-  put-other i h g = getD-set-other (set ws a z) (a + 1) i o 0 g ∙ getD-set-other ws a i z 0 h
-
-  put-first : a < length ws → getD (set (set ws a z) (a + 1) o) a 0 ≡ z
-  put-first h = getD-set-other (set ws a z) (a + 1) a o 0 (λ x. omega arith) ∙ getD-set-same ws a z 0 h
-
-  put-second : a + 1 < length ws → getD (set (set ws a z) (a + 1) o) (a + 1) 0 ≡ o
-  put-second h = getD-set-same (set ws a z) (a + 1) o 0 (omega (arith, length-set ws a z))
-
--- ---- the lanes for which `mine` is true, which had no fault, are given f, whose line has the row
-module _ (r : ℕ) (hits masks : List ℕ) (faults : ℕ → Fault) (mine : ℕ → Bool) (f : Fault) (row pin z o : ℕ)
-    (l : f .line < length hits) (ep : f .pin ≡ pin) (lp : pin < 5) (lv : f .value < 2)
-    (er : row ≡ getD hits (f .line) 0) (nz : row ≡ 0 → ⊥) (lm : 10 * (r + 1) ≤ length masks)
-    (new : (s w : ℕ) → s < 64 → Shows s (getD masks (2 * (5 * row + pin)) 0) (getD masks (2 * (5 * row + pin) + 1) 0) w → (mine s ≡ true → w ≡ X) → Shows s z o (cond (mine s) (f .value) w))
-    (idle : (s n p : ℕ) → mine s ≡ true → n < length hits → isStuck (faults s) n p ≡ false)
-    (b : InRows r hits masks faults) where
-  abbrev masks′ : List ℕ
-  masks′ = set (set masks (2 * (5 * row + pin)) z) (2 * (5 * row + pin) + 1) o
-
-  abbrev fault : ℕ → Fault
-  fault s = cond (mine s) f (faults s)
-
-  small : row ≤ r
-  small = rw er (b .rows (f .line))
-
-  -- where f is not, a lane sees what it saw
-  other : (s n p : ℕ) → n < length hits → isStuck f n p ≡ false → seen (faults s) n p X ≡ seen (fault s) n p X
-  other s n p k e = by-test (mine s)
-      (λ g. rw g (seen-other (faults s) n p X (idle s n p g k) ∙ sym (seen-other f n p X e)))
-      (λ g. rw g)
-
-  old-here : (s : ℕ) → s < 64 → Shows s (getD masks (2 * (5 * row + pin)) 0) (getD masks (2 * (5 * row + pin) + 1) 0) (seen (faults s) (f .line) pin X)
-  old-here s h = rw er (b .lanes s h .at (f .line) l .held (λ x. nz (er ∙ x)) pin lp)
-
-  value : (c : Bool) (g : Fault) → cond c (f .value) (seen g (f .line) pin X) ≡ seen (cond c f g) (f .line) pin X
-  unfolding seen
-  value true g = rw (stuck-here f (f .line) pin refl ep)
-  value false g = refl
-
-  given-here : (s : ℕ) → s < 64 → Shows s z o (seen (fault s) (f .line) pin X)
-  given-here s h = rw (← (value (mine s) (faults s))) (new s _ h (old-here s h) (λ e. seen-other (faults s) (f .line) pin X (idle s (f .line) pin e l)))
-
-  binary′ : (c : Bool) (g : Fault) → g .value < 2 → cond c f g .value < 2
-  binary′ true g h = lv
-  binary′ false g h = h
-
-  free′ : (c : Bool) (g : Fault) (n p : ℕ) → isStuck f n p ≡ false → isStuck g n p ≡ false → isStuck (cond c f g) n p ≡ false
-  free′ true g n p h k = h
-  free′ false g n p h k = k
-
-  shows-other : (s n p : ℕ) → s < 64 → n < length hits → (getD hits n 0 ≡ 0 → ⊥) → p < 5 → isStuck f n p ≡ false → (5 * getD hits n 0 + p ≡ 5 * row + pin → ⊥)
-      → Shows s (getD masks′ (2 * (5 * getD hits n 0 + p)) 0) (getD masks′ (2 * (5 * getD hits n 0 + p) + 1) 0) (seen (fault s) n p X)
-  shows-other s n p h k y q e g =
-      rw (
-        put-other masks (2 * (5 * row + pin)) z o (2 * (5 * getD hits n 0 + p)) (λ x. g (omega arith)) (λ x. g (omega arith)),
-        put-other masks (2 * (5 * row + pin)) z o (2 * (5 * getD hits n 0 + p) + 1) (λ x. g (omega arith)) (λ x. g (omega arith)),
-        ← (other s n p k e),
-      ) (b .lanes s h .at n k .held y p q)
-
-  shows-here : (s n p : ℕ) → s < 64 → n ≡ f .line → p ≡ pin
-      → Shows s (getD masks′ (2 * (5 * getD hits n 0 + p)) 0) (getD masks′ (2 * (5 * getD hits n 0 + p) + 1) 0) (seen (fault s) n p X)
-  shows-here s n p h e g =
-      rw (
-        e,
-        g,
-        ← er,
-        put-first masks (2 * (5 * row + pin)) z o (omega (arith, small)),
-        put-second masks (2 * (5 * row + pin)) z o (omega (arith, small)),
-      ) (given-here s h)
-
-  faulted : InRows r hits masks′ (λ s. cond (mine s) f (faults s))
-  faulted = record {
-    rows = b .rows;
-    apart = b .apart;
-    words = record {
-      below = λ i h. put-other masks (2 * (5 * row + pin)) z o i (λ e. omega arith) (λ e. omega arith) ∙ b .words .below i h;
-      above = λ i h. put-other masks (2 * (5 * row + pin)) z o i (λ e. omega (arith, small)) (λ e. omega (arith, small)) ∙ b .words .above i h;
-    };
-    lanes = λ s h. let old = b .lanes s h in record {
-      lane = h;
-      at = λ n k. record {
-        binary = binary′ (mine s) (faults s) (old .at n k .binary);
-        free = λ e p. free′ (mine s) (faults s) n p (stuck-line f n p (λ g. nz (er ∙ ap (λ (x : ℕ). getD hits x 0) g ∙ e))) (old .at n k .free e p);
-        held = λ e p q. by-eq n (f .line)
-            (λ g. by-eq p pin (λ y. shows-here s n p h g y)
-            (λ y. shows-other s n p h k e q (stuck-pin f n p (λ w. y (sym w ∙ ep)))
-            (λ x. y (let w : getD hits n 0 ≡ row = ap (λ (x : ℕ). getD hits x 0) g ∙ sym er in omega arith))))
-            (λ g. shows-other s n p h k e q (stuck-line f n p (λ w. g (sym w)))
-            (λ x. g (b .apart n (f .line) (let w : getD hits n 0 ≡ row = omega arith in w ∙ er) e)));
-      };
-    };
-  }
+-- ---- a lane that sees X at every mask is given f, whose line has the row
+module _ (t : ℕ) (hits masks : List ℕ) (f : Fault) (row pin : ℕ) (x : Lanes) where
+  lane-stuck : t < 64 → f .pin ≡ pin → pin < 5 → f .value < 2 → getD hits (f .line) 0 ≡ row → (row ≡ 0 → ⊥) → Room (5 * row + 5) masks → Holds t x (f .value)
+      → ((n : ℕ) → getD hits n 0 ≡ row → n ≡ f .line)
+      → ((n p : ℕ) → n < length hits → (getD hits n 0 ≡ 0 → ⊥) → p < 5 → At t masks (5 * getD hits n 0 + p) X)
+      → Stuck t hits (stored masks (5 * row + pin) x) f
+  lane-stuck h ep lp lv er nz room new apart old =
+      let row-of : (n : ℕ) → f .line ≡ n → getD hits n 0 ≡ row = λ n e. rw (← e) er in record {
+        lane = h;
+        at = λ n k. record {
+          binary = lv;
+          free = λ z p. not-stuck f n p (λ e g. nz (sym (row-of n e) ∙ z));
+          held = λ z p q. by-eq (5 * getD hits n 0 + p) (5 * row + pin)
+              (λ e. let line : n ≡ f .line = apart n (omega arith) in
+              let same : f .pin ≡ p = omega arith in
+              rw (e, seen-here f n p (sym line) same) (holds-as t _ _ _ (stored-same masks _ x (omega arith)) new))
+              (λ e. holds-as t _ _ _ (stored-other masks _ _ x e)
+              (rw (unstuck f n p X (not-stuck f n p (λ g y. e (omega (arith, row-of n g))))) (old n p k z q)));
+        };
+      }
 
 -- ---- one fault in all lanes
-module _ (hits masks hits′ masks′ : List ℕ) (line pin stuck z o : ℕ) (b : Blank hits masks) (eh : hits′ ≡ set hits line 1)
-    (em : masks′ ≡ set (set masks (2 * (5 + pin)) z) (2 * (5 + pin) + 1) o) (l : line < length hits) (lm : 2560 ≤ length masks) (lp : pin < 5) (lv : stuck < 2)
-    (new : (t : ℕ) → t < 64 → Shows t z o stuck) where
+module _ (hits masks hits′ masks′ : List ℕ) (line pin : ℕ) (x : Lanes) (eh : hits′ ≡ set hits line 1) (em : masks′ ≡ stored masks (5 + pin) x)
+    (b : Blank hits masks) where
   pub all-only : OnlyAt line pin hits′ masks′
   all-only = record {
     rows = λ n h. rw eh (getD-set-other hits line n 1 0 h ∙ b .rows n);
-    words = λ i h g. rw em (put-other masks (2 * (5 + pin)) z o i h g ∙ b .words i);
+    places = λ m h. rw em (stored-other masks (5 + pin) m x h ∙ b .places m);
   }
 
-  pub all-stuck : (t : ℕ) (f : Fault) → t < 64 → f .line ≡ line → f .pin ≡ pin → f .value ≡ stuck → Stuck t hits′ masks′ f
-  all-stuck t f h el ep ev =
-      let away : Fault = record { line = length hits; pin = 0; value = 0 } in
-      let idle : (n p : ℕ) → n < length hits → isStuck away n p ≡ false = λ n p q. stuck-line away n p (λ e. omega arith) in
-      let first : InRows 0 hits masks (λ s. away) = blank-rows hits masks (λ s. away) b (λ s k. blank-lane s hits masks away b k (omega arith) idle) in
-      let row : getD (set hits line 1) (f .line) 0 ≡ 1 = rw el (getD-set-same hits line 1 0 l) in
-      rw (eh, em)
-      (faulted 1 (set hits line 1) masks (λ s. away) (λ s. true) f 1 pin z o (omega (arith, length-set hits line 1)) ep lp (omega arith) (sym row) (λ x. omega arith) (omega arith)
-      (λ s w k old e. rw ev (new s k)) (λ s n p e q. idle n p (omega (arith, length-set hits line 1))) (opened 0 hits masks (λ s. away) line l (b .rows line) first) .lanes t h)
+  pub all-stuck : (stuck : ℕ) → line < length hits → MaskRoom masks → pin < 5 → stuck < 2 → ((t : ℕ) → t < 64 → Holds t x stuck)
+      → (t : ℕ) (f : Fault) → t < 64 → f .line ≡ line → f .pin ≡ pin → f .value ≡ stuck → Stuck t hits′ masks′ f
+  all-stuck stuck l lm lp ls new t f h el ep ev =
+      rw (eh, em) (lane-stuck t (set hits line 1) masks f 1 pin x h ep lp (omega arith) (rw el (getD-set-same hits line 1 0 l)) (λ z. omega arith) (omega arith)
+      (rw ev (new t h))
+      (λ n e. by-eq n line (λ g. g ∙ sym el) (λ g. absurd (let z : ⊥ = omega (arith, getD-set-other hits line n 1 0 g, b .rows n) in z)))
+      (λ n p k z q. holds-X t masks _ (b .places _)))
 
 -- and taken back
-pub all-taken : (hits masks hits′ masks′ : List ℕ) (line pin : ℕ) → OnlyAt line pin hits masks → hits′ ≡ set hits line 0
-    → masks′ ≡ set (set masks (2 * (5 + pin)) 0) (2 * (5 + pin) + 1) 0 → line < length hits → 2560 ≤ length masks → pin < 5 → Blank hits′ masks′
-all-taken hits masks hits′ masks′ line pin b eh em l lm lp = record {
+pub all-taken : (hits masks hits′ masks′ : List ℕ) (line pin : ℕ) → hits′ ≡ set hits line 0 → masks′ ≡ stored masks (5 + pin) allX → OnlyAt line pin hits masks
+    → line < length hits → MaskRoom masks → pin < 5 → Blank hits′ masks′
+all-taken hits masks hits′ masks′ line pin eh em b l lm lp = record {
   rows = λ n. rw eh (set-zero hits line n l (b .rows n));
-  words = λ i. rw em (by-eq i (2 * (5 + pin))
-      (λ e. rw e (put-first masks (2 * (5 + pin)) 0 0 (omega arith)))
-      (λ e. by-eq i (2 * (5 + pin) + 1)
-      (λ g. rw g (put-second masks (2 * (5 + pin)) 0 0 (omega arith)))
-      (λ g. put-other masks (2 * (5 + pin)) 0 0 i e g ∙ b .words i e g)));
+  places = λ m. rw em (stored-X masks (5 + pin) m (omega arith) (b .places m));
 }
 
 -- ---- one lane more
@@ -243,37 +129,99 @@ pub record Rowed (t : ℕ) (hits hits′ masks : List ℕ) (line : ℕ) : Type 0
   pub kept : (n : ℕ) → (n ≡ line → ⊥) → getD hits′ n 0 ≡ getD hits n 0
   pub rows : (faults : ℕ → Fault) → InRows t hits masks faults → InRows (t + 1) hits′ masks faults
 
-module _ (t : ℕ) (hits hits′ masks : List ℕ) (line : ℕ) where
-  pub rowed-now : hits′ ≡ set hits line (t + 1) → line < length hits → getD hits line 0 ≡ 0 → Rowed t hits hits′ masks line
-  rowed-now e l z = record {
-    size = rw e (length-set hits line (t + 1));
-    row = λ q. omega (arith, sym (getD-set-same hits line (t + 1) 0 l) ∙ ap (λ (x : List ℕ). getD x line 0) (sym e) ∙ q);
-    kept = λ n h. rw e (getD-set-other hits line n (t + 1) 0 h);
-    rows = λ faults b. rw e (opened t hits masks faults line l z b);
-  }
+pub rowed-before : (t : ℕ) (hits hits′ masks : List ℕ) (line : ℕ) → hits′ ≡ hits → (getD hits line 0 ≡ 0 → ⊥) → Rowed t hits hits′ masks line
+rowed-before t hits hits′ masks line e z = rw e record {
+  size = refl;
+  row = z;
+  kept = λ n h. refl;
+  rows = λ faults b. record {
+    rows = λ n. omega (arith, b .rows n);
+    apart = b .apart;
+    places = record { outside = λ m h. b .places .outside m (λ p q. h p (omega arith)) };
+    lanes = b .lanes;
+  };
+}
 
-  pub rowed-before : hits′ ≡ hits → (getD hits line 0 ≡ 0 → ⊥) → Rowed t hits hits′ masks line
-  rowed-before e z = record {
-    size = rw e;
-    row = λ q. z (ap (λ (x : List ℕ). getD x line 0) (sym e) ∙ q);
-    kept = λ n h. rw e;
-    rows = λ faults b. rw e record {
-      rows = λ n. omega (arith, b .rows n);
-      apart = b .apart;
-      words = record { below = b .words .below; above = λ i h. b .words .above i (omega arith) };
-      lanes = b .lanes;
+module _ (t : ℕ) (hits : List ℕ) (line : ℕ) (l : line < length hits) (z : getD hits line 0 ≡ 0) where
+  abbrev opened : List ℕ
+  opened = set hits line (t + 1)
+
+  there : (n : ℕ) → (n ≡ line → ⊥) → getD opened n 0 ≡ getD hits n 0
+  there n h = getD-set-other hits line n (t + 1) 0 h
+
+  here : (n : ℕ) → n ≡ line → getD opened n 0 ≡ t + 1
+  here n e = rw e (getD-set-same hits line (t + 1) 0 l)
+
+  module _ (masks : List ℕ) (faults : ℕ → Fault) (b : InRows t hits masks faults) where
+    rows-apart : (n m : ℕ) → getD opened n 0 ≡ getD opened m 0 → (getD opened n 0 ≡ 0 → ⊥) → n ≡ m
+    rows-apart n m h k = by-eq n line
+        (λ e. by-eq m line (λ g. e ∙ sym g) (λ g. absurd (let w : ⊥ = omega (arith, here n e, there m g, b .rows m) in w)))
+        (λ e. by-eq m line
+        (λ g. absurd (let w : ⊥ = omega (arith, there n e, here m g, b .rows n) in w))
+        (λ g. b .apart n m (sym (there n e) ∙ h ∙ there m g) (λ q. k (there n e ∙ q))))
+
+    lane-kept : (s : ℕ) → s < 64 → Stuck s opened masks (faults s)
+    lane-kept s h = record {
+      lane = h;
+      at = λ n k. let old = b .lanes s h .at n (omega (arith, length-set hits line (t + 1))) in record {
+        binary = old .binary;
+        free = λ e p. by-eq n line (λ g. absurd (let w : ⊥ = omega (arith, here n g) in w)) (λ g. old .free (sym (there n g) ∙ e) p);
+        held = λ e p q. by-eq n line
+            (λ g. rw (here n g, unstuck (faults s) n p X (old .free (rw g z) p)) (holds-X s masks _ (b .places .outside _ (λ x y. omega arith))))
+            (λ g. rw (there n g) (old .held (λ w. e (there n g ∙ w)) p q));
+      };
+    }
+
+  pub rowed-now : (hits′ masks : List ℕ) → hits′ ≡ opened → Rowed t hits hits′ masks line
+  rowed-now hits′ masks e = rw e record {
+    size = length-set hits line (t + 1);
+    row = λ q. omega (arith, here line refl);
+    kept = there;
+    rows = λ faults b. record {
+      rows = λ n. by-eq n line (λ g. omega (arith, here n g)) (λ g. omega (arith, there n g, b .rows n));
+      apart = rows-apart masks faults b;
+      places = record { outside = λ m h. b .places .outside m (λ p q. h p (omega arith)) };
+      lanes = lane-kept masks faults b;
     };
   }
 
-pub lane-given : (t : ℕ) (hits hits′ masks masks′ : List ℕ) (line pin stuck row z o : ℕ) → Rowed t hits hits′ masks line → row ≡ getD hits′ line 0
-    → masks′ ≡ set (set masks (2 * (5 * row + pin)) z) (2 * (5 * row + pin) + 1) o → t < 64 → line < length hits → length hits ≤ 65536 → 2560 ≤ length masks → pin < 5 → stuck < 2
-    → ((s w : ℕ) → s < 64 → Shows s (getD masks (2 * (5 * row + pin)) 0) (getD masks (2 * (5 * row + pin) + 1) 0) w → (s ≡ t → w ≡ X) → Shows s z o (cond (eqb s t) stuck w))
-    → (f : Fault) (faults : ℕ → Fault) → f .line ≡ line → f .pin ≡ pin → f .value ≡ stuck → faults t ≡ noFault → InRows t hits masks faults
-    → InRows (t + 1) hits′ masks′ (λ s. cond (eqb s t) f (faults s))
-lane-given t hits hits′ masks masks′ line pin stuck row z o opens er em ht l lh lm lp ls new f faults el ep ev idle b =
-    rw em
-    (faulted (t + 1) hits′ masks faults (λ s. eqb s t) f row pin z o (omega (arith, opens .size)) ep lp (omega arith) (rw el er) (λ e. opens .row (sym er ∙ e)) (omega arith)
-    (λ s w h old e. rw ev (new s w h old (λ g. e (eq-eqb s t g)))) (λ s n p e h. rw (eqb-true s t e, idle) (stuck-none n p (omega (arith, opens .size)))) (opens .rows faults b))
+module _ (t : ℕ) (hits hits′ masks masks′ : List ℕ) (line pin stuck row : ℕ) (x : Lanes) (em : masks′ ≡ stored masks (5 * row + pin) x)
+    (er : row ≡ getD hits′ line 0) (room : MaskRoom masks) (lp : pin < 5)
+    (new : (s w : ℕ) → s < 64 → At s masks (5 * row + pin) w → (s ≡ t → w ≡ X) → Holds s x (cond (eqb s t) stuck w)) where
+  other-kept : (s m v : ℕ) → s < 64 → (s ≡ t → ⊥) → At s masks m v → Room (5 * row + 5) masks → At s (stored masks (5 * row + pin) x) m v
+  other-kept s m v h ne old l = by-eq m (5 * row + pin)
+      (λ e. rw e (holds-as s _ _ _ (stored-same masks _ x (omega arith)) (rw (ne-eqb s t ne) at (new s v h (rw e at old) (λ g. absurd (ne g))))))
+      (λ e. holds-as s _ _ _ (stored-other masks _ m x e) old)
+
+  pub lane-given : Rowed t hits hits′ masks line → t < 64 → length hits ≤ 65536 → line < length hits → stuck < 2
+      → (before after : ℕ → Fault) → OneMore t line pin stuck before after → InRows t hits masks before → InRows (t + 1) hits′ masks′ after
+  lane-given opens ht wide l ls before after one old =
+      let b = opens .rows before old in
+      let small : row ≤ t + 1 = rw er (b .rows line) in
+      let here : getD hits′ (after t .line) 0 ≡ row = rw (one .given .0) (sym er) in
+      let idle : (n p : ℕ) → n < length hits′ → (getD hits′ n 0 ≡ 0 → ⊥) → p < 5 → At t masks (5 * getD hits′ n 0 + p) X =
+      λ n p k z q.
+      let none : seen (before t) n p X ≡ X = rw (one .idle) (unstuck noFault n p X (stuck-none n p (omega (arith, opens .size)))) in
+      rw none at (b .lanes t ht .at n k .held z p q) in
+      let first : At t masks (5 * row + pin) X = rw er (idle line pin (omega (arith, opens .size)) (opens .row) lp) in
+      rw em record {
+        rows = b .rows;
+        apart = b .apart;
+        places = record { outside = λ m h. stored-other masks _ m x (λ e. h (omega arith) (omega arith)) ∙ b .places .outside m h };
+        lanes = λ s h. by-eq s t
+            (λ e. rw e (lane-stuck t hits′ masks (after t) row pin x ht (one .given .1) lp (omega (arith, one .given .2)) here (λ z. opens .row (sym er ∙ z)) (omega arith)
+            (rw (one .given .2) (rw (eq-eqb t t refl) at (new t X ht first (λ g. refl))))
+            (λ n g. b .apart n _ (g ∙ sym here) (λ z. opens .row (sym er ∙ sym g ∙ z)))
+            idle))
+            (λ e. rw (one .others s e) record {
+              lane = h;
+              at = λ n k. let at = b .lanes s h .at n k in record {
+                binary = at .binary;
+                free = at .free;
+                held = λ z p q. other-kept s _ _ h e (at .held z p q) (omega arith);
+              };
+            });
+      }
 
 -- ---- areas of zeros
 zero-at : (n i : ℕ) → _≡_ {A = ℕ} (getD (replicate n 0) i 0) 0
@@ -283,4 +231,7 @@ zero-at n i = elim (decLe (suc i) n) [
 ]
 
 pub blank-zeros : (n m : ℕ) → Blank (replicate n 0) (replicate m 0)
-blank-zeros n m = record { rows = λ i. zero-at n i; words = λ i. zero-at m i }
+blank-zeros n m = record { rows = λ i. zero-at n i; places = place }
+  where
+    place : (i : ℕ) → lanesAt (replicate m 0) i ≡ allX
+    place i = unfold lanesAt in simp (zero-at m)

@@ -1,3 +1,3 @@
 -- Laws of the lanes' faults.
 pub mod Laws
-pub mod Group
+pub mod Batch

@@ -1,23 +1,25 @@
 use mathlib.Core.Logic.{⊎-elim}
 use native.Mathlib.Omega.{arith}
 use denote.Ref.{now}
+use Rattle.lanes.proofs.Laws.{holds-as}
 use Rattle.faults.proofs.Laws.{Rowed, rowed-now, rowed-before, lane-given}
 use borrow.Author.Needs.{needs}
 use Rattle.faults.proofs.give.Statement.{statement}
 use Rattle.faults.proofs.give.Tie as tie
-use Rattle.faults.proofs.give.Reads as reads
-use Rattle.faults.proofs.give.Lts as lts
-use Rattle.basics.proofs.wide.Reads as wide-reads
-use Rattle.lanes.proofs.Lanes.with.Reads as with-reads
-use Rattle.lanes.proofs.read.Reads as read-reads
-use Rattle.lanes.proofs.store.Reads as store-reads
 
-abbrev Start : tie.Joined1 → tie.Start
-Start c = c .before .before .before .before
+-- places
+abbrev start : tie.Joined1 → tie.Start
+start c = c .before .before .before .before
+
+abbrev joined : tie.After-read → tie.Joined1
+joined c = c .before .before .before .before
+
+abbrev made : tie.After-slice-known5 → tie.After-with
+made c = c .before .before .before
 
 -- past the branch the line has a row
-with-row : (c : tie.Joined1) → Rowed (Start c .args .t) (now (Start c .args .hits)) (c .if1 .hits) (now (Start c .args .masks)) (Start c .args .line)
-with-row c = ⊎-elim (λ w. rowed-now _ _ _ _ _ (w .1) (omega arith) (w .0 .taken)) (λ w. rowed-before _ _ _ _ _ (w .1) (w .0 .left)) (c .if1 .came)
+with-row : (c : tie.Joined1) → Rowed (start c .args .t) (now (start c .args .hits)) (c .if1 .hits) (now (start c .args .masks)) (start c .args .line)
+with-row c = ⊎-elim (λ w. rowed-now _ _ _ (omega arith) (w .0 .taken) _ _ (w .1)) (λ w. rowed-before _ _ _ _ _ (w .1) (w .0 .left)) (c .if1 .came)
 
 slice-read-if1 : tie.Need-slice-read-if1
 slice-read-if1 c = search needs
@@ -53,20 +55,21 @@ store-requires : tie.Need-store-requires
 store-requires c κs = search needs
 
 same-length : tie.Need-same-length
-same-length c = with-row (c .before .before .before .before .before .before .before .before .before) .size
+same-length c = with-row (joined (made c .before .before)) .size
 
 same-length-2 : tie.Need-same-length-2
 same-length-2 c = search needs
 
 returns : tie.Need-returns
 returns c =
-    let at = c .before .before .before .before .before .before .before .before .before in
-    let row = with-row at in
-    let read = c .before .before .before .before .before .read .ensures in (
+    let new = made c in
+    let read = new .before .before in
+    let row = with-row (joined read) in
+    let pre = start (joined read) .pre in (
       row .kept,
-      lane-given _ _ _ _ _ _ _ _ _ _ _ row (c .before .before .before .before .before .before .before .wide .ensures .0) (c .before .before .store .ensures)
-          (omega arith) (omega arith) (omega arith) (omega arith) (omega arith) (omega arith)
-          (λ s w hs h g. c .before .before .before .with .ensures s w hs (read s w h) g),
+      lane-given _ _ _ _ _ _ _ _ _ _ (c .before .before .store .ensures) (read .before .before .wide .ensures .0) (pre .3) (pre .4)
+          (λ s w hs h g. new .with .ensures s w hs (holds-as s _ _ _ (read .read .ensures) h) g)
+          row (pre .0) (pre .2) (pre .1) (pre .5),
     )
 
 pub give-spec : {M : Type 1} → statement M

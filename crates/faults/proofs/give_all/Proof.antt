@@ -4,10 +4,10 @@ use borrow.Author.Needs.{needs}
 use Rattle.faults.proofs.Laws.{all-only, all-stuck}
 use Rattle.faults.proofs.give_all.Statement.{statement}
 use Rattle.faults.proofs.give_all.Tie as tie
-use Rattle.faults.proofs.give_all.Reads as reads
-use Rattle.faults.proofs.give_all.Lts as lts
-use Rattle.lanes.proofs.Lanes.all.Reads as all-reads
-use Rattle.lanes.proofs.store.Reads as store-reads
+
+-- places
+abbrev start : tie.After-all → tie.Start
+start c = c .before .before .before .before
 
 slice-write-hits : tie.Need-slice-write-hits
 slice-write-hits c = search needs
@@ -29,11 +29,10 @@ same-length-2 c = search needs
 
 returns : tie.Need-returns
 returns c =
-    let start = c .before .before .before .before .before .before .before in
-    let put = c .before .before .store .ensures in
-    let new = c .before .before .before .all .ensures in (
-      all-only _ _ _ _ _ _ _ _ _ (start .pre .0) refl put (omega arith) (omega arith) (omega arith) (omega arith) new,
-      all-stuck _ _ _ _ _ _ _ _ _ (start .pre .0) refl put (omega arith) (omega arith) (omega arith) (omega arith) new,
+    let put = c .before .before in
+    let blank = start (put .before) .pre .0 in (
+      all-only _ _ _ _ _ _ _ refl (put .store .ensures) blank,
+      all-stuck _ _ _ _ _ _ _ refl (put .store .ensures) blank _ (omega arith) (omega arith) (omega arith) (omega arith) (put .before .all .ensures),
     )
 
 pub give-all-spec : {M : Type 1} → statement M

@@ -4,9 +4,10 @@ use borrow.Author.Needs.{needs}
 use Rattle.faults.proofs.Laws.{all-taken}
 use Rattle.faults.proofs.take_all.Statement.{statement}
 use Rattle.faults.proofs.take_all.Tie as tie
-use Rattle.faults.proofs.take_all.Reads as reads
-use Rattle.faults.proofs.take_all.Lts as lts
-use Rattle.lanes.proofs.store.Reads as store-reads
+
+-- places
+abbrev start : tie.After-store → tie.Start
+start c = c .before .before .before .before
 
 slice-write-hits : tie.Need-slice-write-hits
 slice-write-hits c = search needs
@@ -25,8 +26,8 @@ same-length-2 c = search needs
 
 returns : tie.Need-returns
 returns c =
-    let start = c .before .before .before .before .before .before in
-    all-taken _ _ _ _ _ _ (start .pre .0) refl (c .before .before .store .ensures) (omega arith) (omega arith) (omega arith)
+    let put = c .before .before in
+    all-taken _ _ _ _ _ _ refl (put .store .ensures) (start put .pre .0) (omega arith) (omega arith) (omega arith)
 
 pub take-all-spec : {M : Type 1} → statement M
 take-all-spec =

@@ -1,24 +1,22 @@
--- A group of faults, lane by lane: which fault each lane has, and which lines have a row.
+-- A batch of faults, lane by lane: which fault each lane has, and which lines have a row.
 use mathlib.Core.Path.{_≡_, ap, sym, _∙_}
-use mathlib.Core.Bool.{cond}
 use mathlib.Core.List.{List}
 use Prim.Native.Nat.{ℕ, suc, _+_, _*_, _<_, _≤_}
 use native.Mathlib.Omega.{arith}
 use native.Mathlib.Decide.{decLe}
-use borrow.Author.Tests.{eq-eqb, ne-eqb, lt-ltb, le-ltb}
-use lib.Dec.{eqb}
+use borrow.Author.Tests.{lt-ltb, le-ltb}
 use lib.ListN.{length, getD, set}
 use Rattle.model.specs.Inputs.{N, faultCount, faultAt}
 use Rattle.model.specs.Accepted.{ValidCircuit, ValidFault}
 use Rattle.model.specs.Simulation.{noFault}
-use Rattle.faults.specs.Given.{Blank, InRows, Group, laneFault, Named, Given}
+use Rattle.faults.specs.Given.{Blank, InRows, OneMore, Batch, laneFault, Named, Given}
 use Rattle.lists.proofs.Tests.{by-eq}
-use Rattle.faults.proofs.Laws.{set-zero, blank-stuck, blank-rows}
+use Rattle.faults.proofs.Laws.{set-zero, blank-rows}
 
 -- faults of an accepted list
-pub valid-group : (c fs : List ℕ) (from count lines : ℕ) → ValidCircuit c → ((j : ℕ) → j < faultCount fs → ValidFault c (faultAt fs j)) → from + count ≤ faultCount fs
-    → count ≤ 64 → N c ≤ lines → Group fs from count lines
-valid-group c fs from count lines circuit faults all few wide =
+pub valid-batch : (c fs : List ℕ) (from count lines : ℕ) → ValidCircuit c → ((j : ℕ) → j < faultCount fs → ValidFault c (faultAt fs j)) → from + count ≤ faultCount fs
+    → count ≤ 64 → N c ≤ lines → Batch fs from count lines
+valid-batch c fs from count lines circuit faults all few wide =
     let at : (s : ℕ) → s < count → ValidFault c (faultAt fs (from + s)) = λ s h. faults (from + s) (omega arith) in record {
       few = few;
       room = whole;
@@ -30,27 +28,30 @@ valid-group c fs from count lines circuit faults all few wide =
     whole : 4 * (from + count) ≤ length fs
     whole = unfold faultCount in omega arith
 
--- the first lanes of a group, one more at a time
+-- the first lanes of a batch, one more at a time
 module _ (fs : List ℕ) (from : ℕ) where
-  pub lane-free : (t s : ℕ) → t ≤ s → laneFault fs from t s ≡ noFault
+  lane-free : (t s : ℕ) → t ≤ s → laneFault fs from t s ≡ noFault
   unfolding laneFault
   lane-free t s h = rw (le-ltb s t h)
 
-  lane-more : (t s : ℕ) → cond (eqb s t) (faultAt fs (from + t)) (laneFault fs from t s) ≡ laneFault fs from (t + 1) s
+  lane-last : (t : ℕ) → laneFault fs from (t + 1) t ≡ faultAt fs (from + t)
   unfolding laneFault
-  lane-more t s = by-eq s t
-      (λ e. rw (eq-eqb s t e, lt-ltb s (t + 1) (omega arith), e))
-      (λ e. rw (ne-eqb s t e) (elim (decLe (suc s) t) [
-        | yes g ↦ rw (lt-ltb s t (omega arith), lt-ltb s (t + 1) (omega arith))
-        | no g ↦ rw (le-ltb s t (omega arith), le-ltb s (t + 1) (omega arith))
-      ]))
+  lane-last t = rw (lt-ltb t (t + 1) (omega arith))
 
-  pub group-none : (hits masks : List ℕ) → Blank hits masks → length hits ≤ 65536 → InRows 0 hits masks (λ s. laneFault fs from 0 s)
-  group-none hits masks b l = blank-rows hits masks (λ s. laneFault fs from 0 s) b (λ s h. rw (lane-free 0 s (omega arith)) (blank-stuck s hits masks b h l))
+  lane-other : (t s : ℕ) → (s ≡ t → ⊥) → laneFault fs from (t + 1) s ≡ laneFault fs from t s
+  unfolding laneFault
+  lane-other t s ne = elim (decLe (suc s) t) [
+    | yes g ↦ rw (lt-ltb s t (omega arith), lt-ltb s (t + 1) (omega arith))
+    | no g ↦ (let l : t + 1 ≤ s = elim (decLe (t + 1) s) [ yes k ↦ k | no k ↦ absurd (ne (omega arith)) ] in
+        rw (le-ltb s t (omega arith), le-ltb s (t + 1) l))
+  ]
 
-  pub group-more : (t : ℕ) (hits masks : List ℕ) → InRows (t + 1) hits masks (λ s. cond (eqb s t) (faultAt fs (from + t)) (laneFault fs from t s))
-      → InRows (t + 1) hits masks (λ s. laneFault fs from (t + 1) s)
-  group-more t hits masks b = record { rows = b .rows; apart = b .apart; words = b .words; lanes = λ s h. rw (← (lane-more t s)) (b .lanes s h) }
+  pub batch-none : (hits masks : List ℕ) → Blank hits masks → length hits ≤ 65536 → InRows 0 hits masks (laneFault fs from 0)
+  batch-none hits masks b l = blank-rows hits masks b (laneFault fs from 0) l (λ s. lane-free 0 s (omega arith))
+
+  pub batch-more : (t line pin stuck : ℕ) → line ≡ faultAt fs (from + t) .line → pin ≡ faultAt fs (from + t) .pin → stuck ≡ faultAt fs (from + t) .value
+      → OneMore t line pin stuck (laneFault fs from t) (laneFault fs from (t + 1))
+  batch-more t line pin stuck el ep ev = record { idle = lane-free t t (omega arith); given = rw (lane-last t) (sym el, sym ep, sym ev); others = lane-other t }
 
 -- the lines that the faults name, one fault more at the end, or one less at the beginning
 module _ (fs : List ℕ) (a b : ℕ) (hits hits′ : List ℕ) (line : ℕ) (old : Named fs a b hits) where
@@ -71,6 +72,6 @@ named-none fs a b hits h old n = old .none n (λ j p q e. omega arith)
 pub blank-named : (fs : List ℕ) (a b : ℕ) (hits masks : List ℕ) → Blank hits masks → Named fs a b hits
 blank-named fs a b hits masks b′ = record { none = λ n h. b′ .rows n }
 
-pub group-all : (fs : List ℕ) (from count t : ℕ) (hits masks : List ℕ) → t ≡ count → InRows t hits masks (λ s. laneFault fs from t s) → Named fs from (from + t) hits
+pub batch-all : (fs : List ℕ) (from count t : ℕ) (hits masks : List ℕ) → t ≡ count → InRows t hits masks (laneFault fs from t) → Named fs from (from + t) hits
     → Given fs from count hits masks
-group-all fs from count t hits masks e b lines = rw (← e) record { lanes = b .lanes; lines = lines; words = b .words }
+batch-all fs from count t hits masks e b lines = rw (← e) record { lanes = b .lanes; lines = lines; places = b .places }
