@@ -7,10 +7,9 @@ use lib.Dec.{leb}
 use lib.ListN.{length}
 use Rattle.lists.specs.Scan.{anyBelow}
 use Rattle.model.specs.Inputs.{O, L, faultCount, Fault}
-use Rattle.model.specs.Refusals.{Refusal}
+use Rattle.model.specs.Refusals.{Refusal, inputRows}
 use Rattle.model.specs.Values.{someOppose}
 use Rattle.model.specs.Simulation.{plainOutputs}
-use Rattle.job.specs.Job.{inputRows}
 use Rattle.faults.specs.Given.{laneFault}
 use Rattle.run.specs.Run.{rowOf}
 

@@ -3,16 +3,17 @@ ghost use mathlib.Core.Path.{_≡_};
 ghost use Prim.Native.Nat.{ℕ, _*_, _<_, _≤_};
 ghost use lib.ListN.{length};
 ghost use Rattle.model.specs.Inputs.{O, L, faultCount};
+ghost use Rattle.model.specs.Accepted.{ValidInputs};
 ghost use Rattle.lanes.specs.Lane.{bit};
 ghost use Rattle.faults.specs.Given.{laneFault};
-ghost use Rattle.job.specs.Job.{Accepted, JobOf};
+ghost use Rattle.job.specs.Job.{JobOf};
 ghost use Rattle.exported.specs.Detected.{opposed, detected};
 use job::Job;
-use rules::Check;
+use job::JobCheck;
 
 // The faults of the list, one to a lane, each from the power-up state.
 fn detect(c: &[u8], job: Job, t: &[u8], fs: &[u8], free: &[u8]) -> u64
-    requires { ⌜ (Accepted (now c) (now t) 64 (now fs)) × (JobOf (now c) (now t) job) × (L (now c) (now t) * O (now c) ≤ length (now free)) ⌝ }
+    requires { ⌜ (ValidInputs (now c) (now t) 0 64 (now fs)) × (JobOf (now c) (now t) job) × (L (now c) (now t) * O (now c) ≤ length (now free)) ⌝ }
     ensures { λ r. ⌜ ((j : ℕ) → j < 64 → bit j r ≡ opposed (now (c .entry)) (now (t .entry)) (now (free .entry)) (laneFault (now (fs .entry)) 0 (faultCount (now (fs .entry))) j)) ⌝ }
 {
     let mut pins = [0u16; 16384];
@@ -22,10 +23,8 @@ fn detect(c: &[u8], job: Job, t: &[u8], fs: &[u8], free: &[u8]) -> u64
     let mut masks = [0u64; 2560];
     let mut words = [0u64; 8192];
     let mut state = [0u64; 512];
-    circuit::list_pins(c, job.lines, &mut pins);
-    circuit::list_flops(c, job.lines, &mut flops);
-    circuit::list_outputs(c, job.lines, &mut outs);
-    faults::give_group(fs, 0, fs.len() / 4, &mut hits, &mut masks);
+    circuit::list_tables(c, job.lines, &mut pins, &mut flops, &mut outs);
+    faults::give_batch(fs, 0, fs.len() / 4, &mut hits, &mut masks);
     run::power_up(c, job.flops, &mut state);
     run::opposing_ever(
         c,
@@ -55,13 +54,13 @@ pub extern "C" fn balithoomai_detected(
 ) -> u64
     ensures { λ r. ⌜ ((j : ℕ) → j < 64 → bit j r ≡ detected (now (circuit .entry)) (now (test .entry)) (now (faults .entry)) (now (free .entry)) j) ⌝ }
 {
-    let check = job::check_inputs(circuit, test, faults, 0, 64);
-    if let Check::Broken { rule, at } = check {
-        return 0;
+    match job::check_inputs(circuit, test, faults, 0, 64) {
+        JobCheck::Broken { rule, at } => 0,
+        JobCheck::Ready(job) => {
+            if free.len() < job.units * job.outputs {
+                return 0;
+            }
+            detect(circuit, job, test, faults, free)
+        }
     }
-    let job = job::job_of(circuit, test);
-    if free.len() < job.units * job.outputs {
-        return 0;
-    }
-    detect(circuit, job, test, faults, free)
 }

@@ -1,32 +1,21 @@
--- What the rows of Simulate give, and the bytes that it writes.
-use mathlib.Core.Path.{_≡_, sym, _∙_}
+-- What Simulate returns and writes where it accepts and where it refuses, and the fault of its list.
+use mathlib.Core.Path.{_≡_}
 use Prim.Native.Nat.{ℕ, _*_, _/_, _<_, _≤_}
 use mathlib.Core.List.{List, append-nil}
 use mathlib.Core.Option.{none, some}
 use lib.ListN.{length}
 use native.Mathlib.Omega.{arith}
-use borrow.Author.Tests.{ltb-false, eq-eqb, ne-eqb}
+use borrow.Author.Tests.{eq-eqb, ne-eqb}
 use Rattle.lists.specs.Scan.{gather}
 use Rattle.lists.specs.Field.{overwritten}
-use Rattle.lists.proofs.Scan.{else-none, gather-same}
+use Rattle.lists.proofs.Scan.{gather-same}
 use Rattle.model.specs.Inputs.{O, L, faultAt, faultCount}
-use Rattle.model.specs.Refusals.{row13, row14, simulateRefusal, answer, done, refused, unlessRefused}
+use Rattle.model.specs.Refusals.{simulateRefusal, answer, done, refused, unlessRefused}
 use Rattle.model.specs.Simulation.{noFault, powerUp, plainOutputs}
 use Rattle.model.specs.Simulate.{onlyFault, simulateBytes, simulateAnswer, simulateArea}
-use Rattle.model.proofs.Accepted.{refuse-none}
-use Rattle.job.specs.Job.{inputRows}
-use Rattle.job.proofs.Laws.{inputs-first, accepted}
 use Rattle.run.specs.Run.{runRow}
-use Rattle.simulate.specs.Simulate.{Ready}
 
 module _ (c t fs : List ℕ) (work result : ℕ) where
-  pub ready : simulateRefusal c t fs work result ≡ none → Ready c t fs result
-  unfolding simulateRefusal row14
-  ready e =
-      let a = else-none (inputRows c t 0 1 fs) _ (sym (inputs-first c t 0 1 fs _) ∙ e) in
-      let b = else-none (row13 c t work) _ (a .1) in
-      record { inputs = accepted c t 0 1 fs (a .0); room = ltb-false result (L c t * O c) (refuse-none _ 14 0 (b .1)) }
-
   pub answer-done : simulateRefusal c t fs work result ≡ none → simulateAnswer c t fs work result ≡ done (L c t * O c)
   unfolding simulateAnswer answer
   answer-done e = rw e

@@ -1,17 +1,17 @@
 // The call Simulate: the plain responses of a circuit, with at most one fault, to a test.
 ghost use mathlib.Core.Path.{_≡_};
-ghost use Prim.Native.Nat.{_<_, _≤_};
+ghost use Prim.Native.Nat.{_*_, _<_, _≤_};
 ghost use lib.ListN.{length};
 ghost use Rattle.lists.specs.Field.{overwritten};
-ghost use Rattle.model.specs.Inputs.{faultAt, faultCount};
+ghost use Rattle.model.specs.Inputs.{O, L, faultAt, faultCount};
+ghost use Rattle.model.specs.Accepted.{ValidInputs};
 ghost use Rattle.model.specs.Simulate.{onlyFault, simulateBytes, simulateAnswer, simulateArea};
 ghost use Rattle.faults.specs.Given.{Blank};
 ghost use Rattle.job.specs.Job.{answerOf, JobOf};
 ghost use Rattle.unit.specs.Unit.{Stuck, MaskRoom};
-ghost use Rattle.simulate.specs.Simulate.{Ready};
 use job::Job;
+use job::JobCheck;
 use job::Outcome;
-use rules::Check;
 
 // The fault of the list, if there is one, in all lanes.
 fn give_only(fs: &[u8], hits: &mut [u8], masks: &mut [u64])
@@ -27,7 +27,7 @@ fn give_only(fs: &[u8], hits: &mut [u8], masks: &mut [u64])
 
 // The responses of an accepted job.
 fn respond(c: &[u8], job: Job, t: &[u8], fs: &[u8], result: &mut [u8])
-    requires { ⌜ (Ready (now c) (now t) (now fs) (length (now result))) × (JobOf (now c) (now t) job) ⌝ }
+    requires { ⌜ (ValidInputs (now c) (now t) 0 1 (now fs)) × (JobOf (now c) (now t) job) × (L (now c) (now t) * O (now c) ≤ length (now result)) ⌝ }
     ensures { λ _. ⌜ now (result .exit) ≡ overwritten (simulateBytes (now (c .entry)) (now (t .entry)) (now (fs .entry))) (now (result .entry)) ⌝ }
 {
     let mut pins = [0u16; 16384];
@@ -37,9 +37,7 @@ fn respond(c: &[u8], job: Job, t: &[u8], fs: &[u8], result: &mut [u8])
     let mut masks = [0u64; 2560];
     let mut words = [0u64; 8192];
     let mut state = [0u64; 512];
-    circuit::list_pins(c, job.lines, &mut pins);
-    circuit::list_flops(c, job.lines, &mut flops);
-    circuit::list_outputs(c, job.lines, &mut outs);
+    circuit::list_tables(c, job.lines, &mut pins, &mut flops, &mut outs);
     give_only(fs, &mut hits, &mut masks);
     run::power_up(c, job.flops, &mut state);
     run::write_rows(
@@ -54,6 +52,7 @@ fn respond(c: &[u8], job: Job, t: &[u8], fs: &[u8], result: &mut [u8])
         &masks,
         &mut words,
         &mut state,
+        0,
         result,
     );
 }
@@ -70,12 +69,11 @@ pub fn simulate(
     ensures writes { λ r. ⌜ now (result .exit) ≡ simulateArea (now (circuit .entry)) (now (test .entry)) (now (faults .entry)) (length (now (work .entry))) (now (result .entry)) ⌝ }
     ensures keeps { λ r. ⌜ now (work .exit) ≡ now (work .entry) ⌝ }
 {
-    let check = job::check_simulate(circuit, test, faults, work.len(), result.len());
-    if let Check::Broken { rule, at } = check {
-        return Outcome::Refused { rule, at };
+    match job::check_simulate(circuit, test, faults, work.len(), result.len()) {
+        JobCheck::Broken { rule, at } => Outcome::Refused { rule, at },
+        JobCheck::Ready(job) => {
+            respond(circuit, job, test, faults, result);
+            Outcome::Done(job.units * job.outputs)
+        }
     }
-    let job = job::job_of(circuit, test);
-    let size = job.units * job.outputs;
-    respond(circuit, job, test, faults, result);
-    Outcome::Done(size)
 }

@@ -3,7 +3,7 @@ use mathlib.Core.Option.{none}
 use native.Mathlib.Omega.{arith}
 use borrow.Author.Tests.{ltb-false}
 use Rattle.lists.specs.Scan.{_else_}
-use Rattle.lists.proofs.Scan.{else-none}
+use mathlib.Mathlib.Data.Option.Basic.{orElse-eq-none}
 use Rattle.model.specs.Refusals.{row12, inputRows, chooseRefusal}
 use Rattle.model.proofs.Accepted.{refuse-none}
 use Rattle.job.specs.Job.{JobOf, JobChecked, Limited}
@@ -22,7 +22,7 @@ checked : (c : tie.After-unless) → let s = start (inputs c) .args in JobChecke
 checked c = joined (inputs c .check-inputs .ensures) (c .before .check-k .ensures) (c .unless .ensures)
 
 passed : (c : tie.After-rows2) → let s = start (inputs (c .before .before)) .args in (inputRows (s .c .now) (s .t .now) 1 1 (s .fs .now) ≡ none) × (row12 (s .k) ≡ none)
-passed c = else-none _ _ (ready-none (checked (c .before .before)) (c .rows2 .given .1))
+passed c = orElse-eq-none _ _ .0 (ready-none (checked (c .before .before)) (c .rows2 .given .1))
 
 mul-check-areas : tie.Need-mul-check-areas
 unfolding row12

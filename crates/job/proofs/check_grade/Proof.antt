@@ -2,7 +2,7 @@ use mathlib.Core.Path.{_≡_}
 use mathlib.Core.Option.{none}
 use native.Mathlib.Omega.{arith}
 use Rattle.lists.specs.Scan.{_else_}
-use Rattle.lists.proofs.Scan.{else-none}
+use mathlib.Mathlib.Data.Option.Basic.{orElse-eq-none}
 use Rattle.model.specs.Inputs.{faultCount}
 use Rattle.model.specs.Refusals.{row11, row12, inputRows, gradeRefusal}
 use Rattle.model.proofs.Accepted.{validInputs}
@@ -22,7 +22,7 @@ checked : (c : tie.After-unless2) → let s = start (inputs c) .args in JobCheck
 checked c = let plan = c .before .before in joined (joined (inputs c .check-inputs .ensures) (plan .before .check-plan .ensures) (plan .unless .ensures)) (c .before .check-k .ensures) (c .unless2 .ensures)
 
 passed : (c : tie.After-rows2) → let s = start (inputs (c .before .before)) .args in inputRows (s .c .now) (s .t .now) 0 32768 (s .fs .now) ≡ none
-passed c = else-none _ _ (else-none _ _ (ready-none (checked (c .before .before)) (c .rows2 .given .1)) .0) .0
+passed c = orElse-eq-none _ _ .0 (orElse-eq-none _ _ .0 (ready-none (checked (c .before .before)) (c .rows2 .given .1)) .0) .0
 
 mul-check-areas : tie.Need-mul-check-areas
 unfolding faultCount

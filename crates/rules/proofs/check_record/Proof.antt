@@ -1,3 +1,4 @@
+use mathlib.Core.Option.{orElse}
 use mathlib.Core.Path.{_≡_, refl, _∙_}
 use mathlib.Core.Bool.{true, false}
 use lib.Dec.{ltb}
@@ -24,7 +25,7 @@ pins-of-requires : tie.Need-pins-of-requires
 pins-of-requires c κs = search needs
 
 returns : tie.Need-returns
-unfolding refusalOf rows2to5 refuse _else_
+unfolding refusalOf rows2to5 refuse orElse
 returns c = rw (← c .before .before .field .ensures .kind refl, lt-ltb _ _ (c .if1 .taken))
 
 -- row 2 passes, and row 3 is what was asked
@@ -33,7 +34,7 @@ asked : (c : tie.After-pins-fit) → let s = start (read c) .args in
 asked c = let k = read c .field .ensures .kind refl in (rw (← k) (le-ltb _ _ (c .before .if1 .left)), cc)
 
 returns-2 : tie.Need-returns-2
-unfolding refusalOf rows2to5 refuse _else_
+unfolding refusalOf rows2to5 refuse orElse
 returns-2 c = let a = asked (c .before) in rw (a .0, a .1, c .if2 .taken)
 
 check-pins-requires : tie.Need-check-pins-requires
@@ -44,7 +45,7 @@ check-pins-requires c κs =
     search needs
 
 returns-3 : tie.Need-returns-3
-unfolding rows2to5 refuse _else_
+unfolding rows2to5 refuse orElse
 returns-3 c =
     let fit : c .before .before .pins-fit .result ≡ true = not-false _ (c .before .if2 .left) in
     let a = asked (c .before .before) in

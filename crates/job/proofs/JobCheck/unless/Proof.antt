@@ -1,3 +1,4 @@
+use mathlib.Core.Option.{orElse}
 use mathlib.Core.Path.{_≡_, refl}
 use native.Mathlib.Omega.{arith}
 use Rattle.lists.specs.Scan.{_else_}
@@ -9,18 +10,18 @@ use Rattle.job.proofs.JobCheck.unless.Statement.{statement}
 use Rattle.job.proofs.JobCheck.unless.Tie as tie
 
 returns : tie.Need-returns
-unfolding jobRefusalOf _else_
+unfolding jobRefusalOf orElse
 returns c = record { refusal = rw (c .before .rows .given .1); job = λ j e. cc }
 
 returns-2 : tie.Need-returns-2
-unfolding jobRefusalOf refusalOf _else_
+unfolding jobRefusalOf refusalOf orElse
 returns-2 c =
     let ready = c .before .before .before in
     let passed : ready .before .before .args .later ≡ Passed = c .enum-told .given .1 in
     record { refusal = rw (ready .rows2 .given .1, passed); job = λ j e. cc }
 
 returns-3 : tie.Need-returns-3
-unfolding jobRefusalOf refusalOf _else_
+unfolding jobRefusalOf refusalOf orElse
 returns-3 c = record { refusal = rw (c .before .before .before .before .rows2 .given .1, c .before .later .given .1); job = λ j e. cc }
 
 pub unless-spec : {M : Type 1} → statement M

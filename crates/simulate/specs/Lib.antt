@@ -1,2 +1,0 @@
--- What Simulate asks for once its inputs are accepted.
-pub mod Simulate
