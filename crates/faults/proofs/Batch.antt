@@ -42,36 +42,34 @@ module _ (fs : List ℕ) (from : ℕ) where
   unfolding laneFault
   lane-other t s ne = elim (decLe (suc s) t) [
     | yes g ↦ rw (lt-ltb s t (omega arith), lt-ltb s (t + 1) (omega arith))
-    | no g ↦ (let l : t + 1 ≤ s = elim (decLe (t + 1) s) [ yes k ↦ k | no k ↦ absurd (ne (omega arith)) ] in
-        rw (le-ltb s t (omega arith), le-ltb s (t + 1) l))
+    | no g ↦ rw (le-ltb s t (omega arith), le-ltb s (t + 1) (omega arith))
   ]
 
-  pub batch-none : (hits masks : List ℕ) → Blank hits masks → length hits ≤ 65536 → InRows 0 hits masks (laneFault fs from 0)
-  batch-none hits masks b l = blank-rows hits masks b (laneFault fs from 0) l (λ s. lane-free 0 s (omega arith))
+  pub batch-none : {hits masks : List ℕ} → Blank hits masks → length hits ≤ 65536 → InRows 0 hits masks (laneFault fs from 0)
+  batch-none b l = blank-rows b l (λ s. lane-free 0 s (omega arith))
 
-  pub batch-more : (t line pin stuck : ℕ) → line ≡ faultAt fs (from + t) .line → pin ≡ faultAt fs (from + t) .pin → stuck ≡ faultAt fs (from + t) .value
+  pub batch-more : {t line pin stuck : ℕ} → line ≡ faultAt fs (from + t) .line → pin ≡ faultAt fs (from + t) .pin → stuck ≡ faultAt fs (from + t) .value
       → OneMore t line pin stuck (laneFault fs from t) (laneFault fs from (t + 1))
-  batch-more t line pin stuck el ep ev = record { idle = lane-free t t (omega arith); given = rw (lane-last t) (sym el, sym ep, sym ev); others = lane-other t }
+  batch-more {t} el ep ev = record { idle = lane-free t t (omega arith); given = rw (lane-last t) (sym el, sym ep, sym ev); others = lane-other t }
 
--- the lines that the faults name, one fault more at the end, or one less at the beginning
-module _ (fs : List ℕ) (a b : ℕ) (hits hits′ : List ℕ) (line : ℕ) (old : Named fs a b hits) where
-  pub named-more : (b′ : ℕ) → b′ ≡ b + 1 → a ≤ b → line ≡ faultAt fs b .line → ((n : ℕ) → (n ≡ line → ⊥) → getD hits′ n 0 ≡ getD hits n 0) → Named fs a b′ hits′
-  named-more b′ e l el kept = record {
-    none = λ n h. kept n (λ g. h b l (omega arith) (sym el ∙ sym g)) ∙ old .none n (λ j p q. h j p (omega arith));
-  }
+-- the lines that the faults name: one fault more at the end, one less at the beginning, none
+module _ {fs : List ℕ} {a b : ℕ} {hits : List ℕ} (old : Named fs a b hits) where
+  pub named-more : {b′ line : ℕ} {hits′ : List ℕ} → b′ ≡ b + 1 → a ≤ b → line ≡ faultAt fs b .line
+      → ((n : ℕ) → (n ≡ line → ⊥) → getD hits′ n 0 ≡ getD hits n 0) → Named fs a b′ hits′
+  named-more e l el kept = record { none = λ n h. kept n (λ g. h b l (omega arith) (sym el ∙ sym g)) ∙ old .none n (λ j p q. h j p (omega arith)) }
 
-  pub named-less : (a′ : ℕ) → a′ ≡ a + 1 → line ≡ faultAt fs a .line → line < length hits → hits′ ≡ set hits line 0 → Named fs a′ b hits′
-  named-less a′ e el l eh = record {
+  pub named-less : {a′ line : ℕ} {hits′ : List ℕ} → a′ ≡ a + 1 → line ≡ faultAt fs a .line → line < length hits → hits′ ≡ set hits line 0 → Named fs a′ b hits′
+  named-less {line = line} e el l eh = record {
     none = λ n h. rw eh (set-zero hits line n l
         (λ g. old .none n (λ j p q k. by-eq j a (λ w. g (sym k ∙ ap (λ (x : ℕ). faultAt fs x .line) w ∙ sym el)) (λ w. h j (omega arith) q k))));
   }
 
-pub named-none : (fs : List ℕ) (a b : ℕ) (hits : List ℕ) → b ≤ a → Named fs a b hits → (n : ℕ) → getD hits n 0 ≡ 0
-named-none fs a b hits h old n = old .none n (λ j p q e. omega arith)
+  pub named-none : b ≤ a → (n : ℕ) → getD hits n 0 ≡ 0
+  named-none h n = old .none n (λ j p q e. omega arith)
 
-pub blank-named : (fs : List ℕ) (a b : ℕ) (hits masks : List ℕ) → Blank hits masks → Named fs a b hits
-blank-named fs a b hits masks b′ = record { none = λ n h. b′ .rows n }
+pub blank-named : {fs : List ℕ} {a b : ℕ} {hits masks : List ℕ} → Blank hits masks → Named fs a b hits
+blank-named b = record { none = λ n h. b .rows n }
 
-pub batch-all : (fs : List ℕ) (from count t : ℕ) (hits masks : List ℕ) → t ≡ count → InRows t hits masks (laneFault fs from t) → Named fs from (from + t) hits
+pub batch-all : {fs : List ℕ} {from count t : ℕ} {hits masks : List ℕ} → t ≡ count → InRows t hits masks (laneFault fs from t) → Named fs from (from + t) hits
     → Given fs from count hits masks
-batch-all fs from count t hits masks e b lines = rw (← e) record { lanes = b .lanes; lines = lines; places = b .places }
+batch-all e b lines = rw (← e) record { lanes = b .lanes; lines = lines; places = b .places }

@@ -30,12 +30,16 @@ stored-X ws i k l h = by-eq k i (λ e. rw e (stored-same ws i allX l)) (λ e. st
 holds-X : (t : ℕ) (ws : List ℕ) (m : ℕ) → lanesAt ws m ≡ allX → At t ws m X
 holds-X t ws m e = holds-as t _ _ _ e (shows-x t 2 (omega arith))
 
-module _ (a b : ℕ) (ws : List ℕ) (old : Within a b ws) where
-  pub within-less : (a′ : ℕ) (ws′ : List ℕ) → a′ ≡ a + 1 → ws′ ≡ stored ws a allX → Room (a + 1) ws → Within a′ b ws′
-  within-less a′ ws′ e w l = record { outside = λ m h. rw w (stored-X ws a m l (λ ne. old .outside m (λ p q. h (omega arith) q))) }
+-- the places that may hold masks: one less at the beginning, none, more at the end
+module _ {a b : ℕ} {ws : List ℕ} (old : Within a b ws) where
+  pub within-less : {a′ : ℕ} {ws′ : List ℕ} → a′ ≡ a + 1 → ws′ ≡ stored ws a allX → Room (a + 1) ws → Within a′ b ws′
+  within-less e w l = record { outside = λ m h. rw w (stored-X ws a m l (λ ne. old .outside m (λ p q. h (omega arith) q))) }
 
   pub within-none : b ≤ a → (m : ℕ) → lanesAt ws m ≡ allX
   within-none h m = old .outside m (λ p q. omega arith)
+
+  within-more : {b′ : ℕ} → b ≤ b′ → Within a b′ ws
+  within-more l = record { outside = λ m h. old .outside m (λ p q. h p (omega arith)) }
 
 -- ---- a fault, and the places where it is not
 module _ (f : Fault) (n p : ℕ) where
@@ -54,50 +58,50 @@ unfolding noFault
 stuck-none n p h = not-stuck noFault n p (λ e g. omega arith)
 
 -- ---- nothing is given yet
-module _ (hits masks : List ℕ) (b : Blank hits masks) where
-  none-stuck : (t : ℕ) → t < 64 → length hits ≤ 65536 → Stuck t hits masks noFault
-  none-stuck t h l = record {
-    lane = h;
-    at = λ n k. record { binary = binary; free = λ z p. stuck-none n p (omega arith); held = λ z p q. absurd (z (b .rows n)) };
-  }
-    where
-      binary : noFault .value < 2
-      binary = unfold noFault in omega arith
-
-  pub blank-rows : (faults : ℕ → Fault) → length hits ≤ 65536 → ((s : ℕ) → faults s ≡ noFault) → InRows 0 hits masks faults
-  blank-rows faults l none = record {
-    rows = λ n. omega (arith, b .rows n);
-    apart = λ n m e z. absurd (z (b .rows n));
-    places = record { outside = λ m h. b .places m };
-    lanes = λ s h. rw (none s) (none-stuck s h l);
-  }
-
 pub blank-stuck : (t : ℕ) (hits masks : List ℕ) → Blank hits masks → t < 64 → length hits ≤ 65536 → Stuck t hits masks noFault
-blank-stuck t hits masks b h l = none-stuck hits masks b t h l
+unfolding noFault
+blank-stuck t hits masks b h l = record {
+  lane = h;
+  at = λ n k. record { binary = omega arith; free = λ z p. stuck-none n p (omega arith); held = λ z p q. absurd (z (b .rows n)) };
+}
 
--- ---- a lane that sees X at every mask is given f, whose line has the row
+pub blank-rows : {hits masks : List ℕ} {faults : ℕ → Fault} → Blank hits masks → length hits ≤ 65536 → ((s : ℕ) → faults s ≡ noFault) → InRows 0 hits masks faults
+blank-rows b l none = record {
+  rows = λ n. omega (arith, b .rows n);
+  apart = λ n m e z. absurd (z (b .rows n));
+  places = record { outside = λ m h. b .places m };
+  lanes = λ s h. rw (none s) (blank-stuck s _ _ b h l);
+}
+
+-- ---- a lane that has no fault is given one
+-- in lane t every mask of every line is X
+abbrev Idle : ℕ → List ℕ → List ℕ → Type 0
+Idle t hits masks = (n p : ℕ) → n < length hits → (getD hits n 0 ≡ 0 → ⊥) → p < 5 → At t masks (5 * getD hits n 0 + p) X
+
+none-idle : (t : ℕ) (hits masks : List ℕ) (f : Fault) → f ≡ noFault → length hits ≤ 65536 → Stuck t hits masks f → Idle t hits masks
+none-idle t hits masks f e l s n p k z q =
+    let none : seen f n p X ≡ X = rw e (unstuck noFault n p X (stuck-none n p (omega arith))) in
+    rw none at (s .at n k .held z p q)
+
+-- the fault's line has the row, and no other line has it
 module _ (t : ℕ) (hits masks : List ℕ) (f : Fault) (row pin : ℕ) (x : Lanes) where
-  lane-stuck : t < 64 → f .pin ≡ pin → pin < 5 → f .value < 2 → getD hits (f .line) 0 ≡ row → (row ≡ 0 → ⊥) → Room (5 * row + 5) masks → Holds t x (f .value)
-      → ((n : ℕ) → getD hits n 0 ≡ row → n ≡ f .line)
-      → ((n p : ℕ) → n < length hits → (getD hits n 0 ≡ 0 → ⊥) → p < 5 → At t masks (5 * getD hits n 0 + p) X)
-      → Stuck t hits (stored masks (5 * row + pin) x) f
-  lane-stuck h ep lp lv er nz room new apart old =
+  lane-stuck : t < 64 → f .pin ≡ pin → pin < 5 → f .value < 2 → getD hits (f .line) 0 ≡ row → (row ≡ 0 → ⊥) → ((n : ℕ) → getD hits n 0 ≡ row → n ≡ f .line)
+      → Room (5 * row + 5) masks → Holds t x (f .value) → Idle t hits masks → Stuck t hits (stored masks (5 * row + pin) x) f
+  lane-stuck h ep lp lv er nz apart room new idle =
       let row-of : (n : ℕ) → f .line ≡ n → getD hits n 0 ≡ row = λ n e. rw (← e) er in record {
         lane = h;
         at = λ n k. record {
           binary = lv;
           free = λ z p. not-stuck f n p (λ e g. nz (sym (row-of n e) ∙ z));
           held = λ z p q. by-eq (5 * getD hits n 0 + p) (5 * row + pin)
-              (λ e. let line : n ≡ f .line = apart n (omega arith) in
-              let same : f .pin ≡ p = omega arith in
-              rw (e, seen-here f n p (sym line) same) (holds-as t _ _ _ (stored-same masks _ x (omega arith)) new))
+              (λ e. rw (e, seen-here f n p (sym (apart n (omega arith))) (omega arith)) (holds-as t _ _ _ (stored-same masks _ x (omega arith)) new))
               (λ e. holds-as t _ _ _ (stored-other masks _ _ x e)
-              (rw (unstuck f n p X (not-stuck f n p (λ g y. e (omega (arith, row-of n g))))) (old n p k z q)));
+              (rw (unstuck f n p X (not-stuck f n p (λ g y. e (omega (arith, row-of n g))))) (idle n p k z q)));
         };
       }
 
 -- ---- one fault in all lanes
-module _ (hits masks hits′ masks′ : List ℕ) (line pin : ℕ) (x : Lanes) (eh : hits′ ≡ set hits line 1) (em : masks′ ≡ stored masks (5 + pin) x)
+module _ {hits masks hits′ masks′ : List ℕ} {line pin : ℕ} (x : Lanes) (eh : hits′ ≡ set hits line 1) (em : masks′ ≡ stored masks (5 + pin) x)
     (b : Blank hits masks) where
   pub all-only : OnlyAt line pin hits′ masks′
   all-only = record {
@@ -105,18 +109,17 @@ module _ (hits masks hits′ masks′ : List ℕ) (line pin : ℕ) (x : Lanes) (
     places = λ m h. rw em (stored-other masks (5 + pin) m x h ∙ b .places m);
   }
 
-  pub all-stuck : (stuck : ℕ) → line < length hits → MaskRoom masks → pin < 5 → stuck < 2 → ((t : ℕ) → t < 64 → Holds t x stuck)
+  pub all-stuck : {stuck : ℕ} → line < length hits → MaskRoom masks → pin < 5 → stuck < 2 → ((t : ℕ) → t < 64 → Holds t x stuck)
       → (t : ℕ) (f : Fault) → t < 64 → f .line ≡ line → f .pin ≡ pin → f .value ≡ stuck → Stuck t hits′ masks′ f
-  all-stuck stuck l lm lp ls new t f h el ep ev =
-      rw (eh, em) (lane-stuck t (set hits line 1) masks f 1 pin x h ep lp (omega arith) (rw el (getD-set-same hits line 1 0 l)) (λ z. omega arith) (omega arith)
-      (rw ev (new t h))
-      (λ n e. by-eq n line (λ g. g ∙ sym el) (λ g. absurd (let z : ⊥ = omega (arith, getD-set-other hits line n 1 0 g, b .rows n) in z)))
-      (λ n p k z q. holds-X t masks _ (b .places _)))
+  all-stuck l lm lp ls new t f h el ep ev =
+      rw (eh, em) (lane-stuck t (set hits line 1) masks f 1 pin x h ep lp (omega arith) (rw el (getD-set-same hits line 1 0 l)) (λ z. omega arith)
+      (λ n e. by-eq n line (λ g. g ∙ sym el) (λ g. omega (arith, getD-set-other hits line n 1 0 g, b .rows n)))
+      (omega arith) (rw ev (new t h)) (λ n p k z q. holds-X t masks _ (b .places _)))
 
 -- and taken back
-pub all-taken : (hits masks hits′ masks′ : List ℕ) (line pin : ℕ) → hits′ ≡ set hits line 0 → masks′ ≡ stored masks (5 + pin) allX → OnlyAt line pin hits masks
+pub all-taken : {hits masks hits′ masks′ : List ℕ} {line pin : ℕ} → hits′ ≡ set hits line 0 → masks′ ≡ stored masks (5 + pin) allX → OnlyAt line pin hits masks
     → line < length hits → MaskRoom masks → pin < 5 → Blank hits′ masks′
-all-taken hits masks hits′ masks′ line pin eh em b l lm lp = record {
+all-taken {hits} {masks} {line = line} {pin = pin} eh em b l lm lp = record {
   rows = λ n. rw eh (set-zero hits line n l (b .rows n));
   places = λ m. rw em (stored-X masks (5 + pin) m (omega arith) (b .places m));
 }
@@ -129,20 +132,15 @@ pub record Rowed (t : ℕ) (hits hits′ masks : List ℕ) (line : ℕ) : Type 0
   pub kept : (n : ℕ) → (n ≡ line → ⊥) → getD hits′ n 0 ≡ getD hits n 0
   pub rows : (faults : ℕ → Fault) → InRows t hits masks faults → InRows (t + 1) hits′ masks faults
 
-pub rowed-before : (t : ℕ) (hits hits′ masks : List ℕ) (line : ℕ) → hits′ ≡ hits → (getD hits line 0 ≡ 0 → ⊥) → Rowed t hits hits′ masks line
-rowed-before t hits hits′ masks line e z = rw e record {
+pub rowed-before : {t : ℕ} {hits hits′ masks : List ℕ} {line : ℕ} → hits′ ≡ hits → (getD hits line 0 ≡ 0 → ⊥) → Rowed t hits hits′ masks line
+rowed-before e z = rw e record {
   size = refl;
   row = z;
   kept = λ n h. refl;
-  rows = λ faults b. record {
-    rows = λ n. omega (arith, b .rows n);
-    apart = b .apart;
-    places = record { outside = λ m h. b .places .outside m (λ p q. h p (omega arith)) };
-    lanes = b .lanes;
-  };
+  rows = λ faults b. record { rows = λ n. omega (arith, b .rows n); apart = b .apart; places = within-more (b .places) (omega arith); lanes = b .lanes };
 }
 
-module _ (t : ℕ) (hits : List ℕ) (line : ℕ) (l : line < length hits) (z : getD hits line 0 ≡ 0) where
+module _ (t : ℕ) (hits : List ℕ) (line : ℕ) (l : line < length hits) where
   abbrev opened : List ℕ
   opened = set hits line (t + 1)
 
@@ -155,13 +153,13 @@ module _ (t : ℕ) (hits : List ℕ) (line : ℕ) (l : line < length hits) (z : 
   module _ (masks : List ℕ) (faults : ℕ → Fault) (b : InRows t hits masks faults) where
     rows-apart : (n m : ℕ) → getD opened n 0 ≡ getD opened m 0 → (getD opened n 0 ≡ 0 → ⊥) → n ≡ m
     rows-apart n m h k = by-eq n line
-        (λ e. by-eq m line (λ g. e ∙ sym g) (λ g. absurd (let w : ⊥ = omega (arith, here n e, there m g, b .rows m) in w)))
+        (λ e. by-eq m line (λ g. e ∙ sym g) (λ g. omega (arith, here n e, there m g, b .rows m)))
         (λ e. by-eq m line
-        (λ g. absurd (let w : ⊥ = omega (arith, there n e, here m g, b .rows n) in w))
+        (λ g. omega (arith, there n e, here m g, b .rows n))
         (λ g. b .apart n m (sym (there n e) ∙ h ∙ there m g) (λ q. k (there n e ∙ q))))
 
-    lane-kept : (s : ℕ) → s < 64 → Stuck s opened masks (faults s)
-    lane-kept s h = record {
+    lane-kept : getD hits line 0 ≡ 0 → (s : ℕ) → s < 64 → Stuck s opened masks (faults s)
+    lane-kept z s h = record {
       lane = h;
       at = λ n k. let old = b .lanes s h .at n (omega (arith, length-set hits line (t + 1))) in record {
         binary = old .binary;
@@ -172,56 +170,49 @@ module _ (t : ℕ) (hits : List ℕ) (line : ℕ) (l : line < length hits) (z : 
       };
     }
 
-  pub rowed-now : (hits′ masks : List ℕ) → hits′ ≡ opened → Rowed t hits hits′ masks line
-  rowed-now hits′ masks e = rw e record {
+  pub rowed-now : {hits′ masks : List ℕ} → hits′ ≡ opened → getD hits line 0 ≡ 0 → Rowed t hits hits′ masks line
+  rowed-now {masks = masks} e z = rw e record {
     size = length-set hits line (t + 1);
     row = λ q. omega (arith, here line refl);
     kept = there;
     rows = λ faults b. record {
       rows = λ n. by-eq n line (λ g. omega (arith, here n g)) (λ g. omega (arith, there n g, b .rows n));
       apart = rows-apart masks faults b;
-      places = record { outside = λ m h. b .places .outside m (λ p q. h p (omega arith)) };
-      lanes = lane-kept masks faults b;
+      places = within-more (b .places) (omega arith);
+      lanes = lane-kept masks faults b z;
     };
   }
 
-module _ (t : ℕ) (hits hits′ masks masks′ : List ℕ) (line pin stuck row : ℕ) (x : Lanes) (em : masks′ ≡ stored masks (5 * row + pin) x)
-    (er : row ≡ getD hits′ line 0) (room : MaskRoom masks) (lp : pin < 5)
-    (new : (s w : ℕ) → s < 64 → At s masks (5 * row + pin) w → (s ≡ t → w ≡ X) → Holds s x (cond (eqb s t) stuck w)) where
-  other-kept : (s m v : ℕ) → s < 64 → (s ≡ t → ⊥) → At s masks m v → Room (5 * row + 5) masks → At s (stored masks (5 * row + pin) x) m v
-  other-kept s m v h ne old l = by-eq m (5 * row + pin)
-      (λ e. rw e (holds-as s _ _ _ (stored-same masks _ x (omega arith)) (rw (ne-eqb s t ne) at (new s v h (rw e at old) (λ g. absurd (ne g))))))
-      (λ e. holds-as s _ _ _ (stored-other masks _ m x e) old)
+-- lane t is given its fault; every other lane sees what it saw
+module _ (t stuck m : ℕ) (masks : List ℕ) (x : Lanes) (new : (s w : ℕ) → s < 64 → At s masks m w → (s ≡ t → w ≡ X) → Holds s x (cond (eqb s t) stuck w)) where
+  other-kept : Room (m + 1) masks → (s k v : ℕ) → s < 64 → (s ≡ t → ⊥) → At s masks k v → At s (stored masks m x) k v
+  other-kept room s k v h ne old = by-eq k m
+      (λ e. rw e (holds-as s _ _ _ (stored-same masks _ x room) (rw (ne-eqb s t ne) at (new s v h (rw e at old) (λ g. absurd (ne g))))))
+      (λ e. holds-as s _ _ _ (stored-other masks _ k x e) old)
 
-  pub lane-given : Rowed t hits hits′ masks line → t < 64 → length hits ≤ 65536 → line < length hits → stuck < 2
-      → (before after : ℕ → Fault) → OneMore t line pin stuck before after → InRows t hits masks before → InRows (t + 1) hits′ masks′ after
-  lane-given opens ht wide l ls before after one old =
-      let b = opens .rows before old in
-      let small : row ≤ t + 1 = rw er (b .rows line) in
-      let here : getD hits′ (after t .line) 0 ≡ row = rw (one .given .0) (sym er) in
-      let idle : (n p : ℕ) → n < length hits′ → (getD hits′ n 0 ≡ 0 → ⊥) → p < 5 → At t masks (5 * getD hits′ n 0 + p) X =
-      λ n p k z q.
-      let none : seen (before t) n p X ≡ X = rw (one .idle) (unstuck noFault n p X (stuck-none n p (omega (arith, opens .size)))) in
-      rw none at (b .lanes t ht .at n k .held z p q) in
-      let first : At t masks (5 * row + pin) X = rw er (idle line pin (omega (arith, opens .size)) (opens .row) lp) in
-      rw em record {
-        rows = b .rows;
-        apart = b .apart;
-        places = record { outside = λ m h. stored-other masks _ m x (λ e. h (omega arith) (omega arith)) ∙ b .places .outside m h };
-        lanes = λ s h. by-eq s t
-            (λ e. rw e (lane-stuck t hits′ masks (after t) row pin x ht (one .given .1) lp (omega (arith, one .given .2)) here (λ z. opens .row (sym er ∙ z)) (omega arith)
-            (rw (one .given .2) (rw (eq-eqb t t refl) at (new t X ht first (λ g. refl))))
-            (λ n g. b .apart n _ (g ∙ sym here) (λ z. opens .row (sym er ∙ sym g ∙ z)))
-            idle))
-            (λ e. rw (one .others s e) record {
-              lane = h;
-              at = λ n k. let at = b .lanes s h .at n k in record {
-                binary = at .binary;
-                free = at .free;
-                held = λ z p q. other-kept s _ _ h e (at .held z p q) (omega arith);
-              };
-            });
-      }
+pub lane-given : {t line pin stuck row : ℕ} {hits hits′ masks masks′ : List ℕ} (x : Lanes) → Rowed t hits hits′ masks line
+    → t < 64 → line < length hits → length hits ≤ 65536 → MaskRoom masks → pin < 5 → stuck < 2 → row ≡ getD hits′ line 0 → masks′ ≡ stored masks (5 * row + pin) x
+    → ((s w : ℕ) → s < 64 → At s masks (5 * row + pin) w → (s ≡ t → w ≡ X) → Holds s x (cond (eqb s t) stuck w))
+    → (before after : ℕ → Fault) → OneMore t line pin stuck before after → InRows t hits masks before → InRows (t + 1) hits′ masks′ after
+lane-given {t} {line} {pin} {stuck} {row} {hits} {hits′} {masks} x opens ht l wide room lp ls er em new before after one old =
+    let b = opens .rows before old in
+    let small : row ≤ t + 1 = rw er (b .rows line) in
+    let here : getD hits′ (after t .line) 0 ≡ row = rw (one .given .0) (sym er) in
+    let idle : Idle t hits′ masks = none-idle t hits′ masks (before t) (one .idle) (omega (arith, opens .size)) (b .lanes t ht) in
+    let was : At t masks (5 * row + pin) X = rw er (idle line pin (omega (arith, opens .size)) (opens .row) lp) in
+    rw em record {
+      rows = b .rows;
+      apart = b .apart;
+      places = record { outside = λ m h. stored-other masks _ m x (λ e. h (omega arith) (omega arith)) ∙ b .places .outside m h };
+      lanes = λ s h. by-eq s t
+          (λ e. rw e (lane-stuck t hits′ masks (after t) row pin x ht (one .given .1) lp (omega (arith, one .given .2)) here (λ z. opens .row (sym er ∙ z))
+          (λ n g. b .apart n _ (g ∙ sym here) (λ z. opens .row (sym er ∙ sym g ∙ z)))
+          (omega arith) (rw (one .given .2) (rw (eq-eqb t t refl) at (new t X ht was (λ g. refl)))) idle))
+          (λ e. let was = b .lanes s h .at in rw (one .others s e) record {
+            lane = h;
+            at = λ n k. record { binary = was n k .binary; free = was n k .free; held = λ z p q. other-kept t stuck _ masks x new (omega arith) s _ _ h e (was n k .held z p q) };
+          });
+    }
 
 -- ---- areas of zeros
 zero-at : (n i : ℕ) → _≡_ {A = ℕ} (getD (replicate n 0) i 0) 0

@@ -39,14 +39,14 @@ loop-again c =
     let inv = put .before .before .before .loop .inv in (
       omega arith,
       length-stored _ _ _ _ (put .store .ensures) ∙ inv .1,
-      within-less _ _ _ (inv .2) _ _ (omega arith) (put .store .ensures) (omega arith),
+      within-less (inv .2) (omega arith) (put .store .ensures) (omega arith),
     )
 
 same-length : tie.Need-same-length Inv-loop μ-loop
 same-length c = c .before .loop .inv .1
 
 returns : tie.Need-returns Inv-loop μ-loop
-returns c = within-none _ _ _ (c .before .loop .inv .2) (omega arith)
+returns c = within-none (c .before .loop .inv .2) (omega arith)
 
 pub clear-rows-spec : {M : Type 1} → statement M
 clear-rows-spec =

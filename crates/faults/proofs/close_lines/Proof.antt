@@ -45,14 +45,14 @@ loop-again : tie.Need-loop-again Inv-loop μ-loop
 loop-again c = let inv = turn c .loop .inv in (
   omega arith,
   simp length-set (inv .1),
-  named-less _ _ _ _ _ _ (inv .2) _ (omega arith) (c .fault-of .ensures .line) (slice-write-hits c) refl,
+  named-less (inv .2) (omega arith) (c .fault-of .ensures .line) (slice-write-hits c) refl,
 )
 
 same-length : tie.Need-same-length Inv-loop μ-loop
 same-length c = c .before .loop .inv .1
 
 returns : tie.Need-returns Inv-loop μ-loop
-returns c = named-none _ _ _ _ (omega arith) (c .before .loop .inv .2)
+returns c = named-none (c .before .loop .inv .2) (omega arith)
 
 pub close-lines-spec : {M : Type 1} → statement M
 close-lines-spec =

@@ -19,7 +19,7 @@ made c = c .before .before .before
 
 -- past the branch the line has a row
 with-row : (c : tie.Joined1) → Rowed (start c .args .t) (now (start c .args .hits)) (c .if1 .hits) (now (start c .args .masks)) (start c .args .line)
-with-row c = ⊎-elim (λ w. rowed-now _ _ _ (omega arith) (w .0 .taken) _ _ (w .1)) (λ w. rowed-before _ _ _ _ _ (w .1) (w .0 .left)) (c .if1 .came)
+with-row c = ⊎-elim (λ w. rowed-now _ _ _ (omega arith) (w .1) (w .0 .taken)) (λ w. rowed-before (w .1) (w .0 .left)) (c .if1 .came)
 
 slice-read-if1 : tie.Need-slice-read-if1
 slice-read-if1 c = search needs
@@ -67,9 +67,8 @@ returns c =
     let row = with-row (joined read) in
     let pre = start (joined read) .pre in (
       row .kept,
-      lane-given _ _ _ _ _ _ _ _ _ _ (c .before .before .store .ensures) (read .before .before .wide .ensures .0) (pre .3) (pre .4)
-          (λ s w hs h g. new .with .ensures s w hs (holds-as s _ _ _ (read .read .ensures) h) g)
-          row (pre .0) (pre .2) (pre .1) (pre .5),
+      lane-given _ row (pre .0) (pre .1) (pre .2) (pre .3) (pre .4) (pre .5) (read .before .before .wide .ensures .0) (c .before .before .store .ensures)
+          (λ s w hs h g. new .with .ensures s w hs (holds-as s _ _ _ (read .read .ensures) h) g),
     )
 
 pub give-spec : {M : Type 1} → statement M

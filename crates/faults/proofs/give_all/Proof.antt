@@ -31,8 +31,8 @@ returns : tie.Need-returns
 returns c =
     let put = c .before .before in
     let blank = start (put .before) .pre .0 in (
-      all-only _ _ _ _ _ _ _ refl (put .store .ensures) blank,
-      all-stuck _ _ _ _ _ _ _ refl (put .store .ensures) blank _ (omega arith) (omega arith) (omega arith) (omega arith) (put .before .all .ensures),
+      all-only _ refl (put .store .ensures) blank,
+      all-stuck _ refl (put .store .ensures) blank (omega arith) (omega arith) (omega arith) (omega arith) (put .before .all .ensures),
     )
 
 pub give-all-spec : {M : Type 1} → statement M

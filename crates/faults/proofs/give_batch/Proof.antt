@@ -28,7 +28,7 @@ fault c = c .before .before .before
 loop-holds : tie.Need-loop-holds Inv-loop μ-loop
 loop-holds c =
     let blank = c .before .before .before .pre .0 in
-    (omega arith, refl, refl, batch-none _ _ _ _ blank (omega arith), blank-named _ _ _ _ _ blank)
+    (omega arith, refl, refl, batch-none _ _ blank (omega arith), blank-named blank)
 
 add-fault-of : tie.Need-add-fault-of Inv-loop μ-loop
 add-fault-of c = omega (arith, start (c .before) .pre .1 .room)
@@ -65,8 +65,8 @@ loop-again c =
       omega arith,
       c .before .before .before .hits .given ∙ inv .1,
       c .before .masks .given ∙ inv .2,
-      gave .give .ensures .1 _ _ (batch-more _ _ _ _ _ _ (f .line) (f .pin) (f .value)) (inv .3),
-      named-more _ _ _ _ _ _ (inv .4) _ (omega arith) (omega arith) (f .line) (gave .give .ensures .0),
+      gave .give .ensures .1 _ _ (batch-more _ _ (f .line) (f .pin) (f .value)) (inv .3),
+      named-more (inv .4) (omega arith) (omega arith) (f .line) (gave .give .ensures .0),
     )
 
 same-length : tie.Need-same-length Inv-loop μ-loop
@@ -76,7 +76,7 @@ same-length-2 : tie.Need-same-length-2 Inv-loop μ-loop
 same-length-2 c = c .before .loop .inv .2
 
 returns : tie.Need-returns Inv-loop μ-loop
-returns c = batch-all _ _ _ _ _ _ (omega arith) (c .before .loop .inv .3) (c .before .loop .inv .4)
+returns c = batch-all (omega arith) (c .before .loop .inv .3) (c .before .loop .inv .4)
 
 pub give-batch-spec : {M : Type 1} → statement M
 give-batch-spec =

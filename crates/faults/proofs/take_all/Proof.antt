@@ -27,7 +27,7 @@ same-length-2 c = search needs
 returns : tie.Need-returns
 returns c =
     let put = c .before .before in
-    all-taken _ _ _ _ _ _ refl (put .store .ensures) (start put .pre .0) (omega arith) (omega arith) (omega arith)
+    all-taken refl (put .store .ensures) (start put .pre .0) (omega arith) (omega arith) (omega arith)
 
 pub take-all-spec : {M : Type 1} → statement M
 take-all-spec =
