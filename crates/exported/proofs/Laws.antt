@@ -9,14 +9,15 @@ use native.Mathlib.Omega.{arith}
 use borrow.Author.Tests.{le-leb, lt-leb}
 use Rattle.lists.specs.Scan.{anyBelow}
 use Rattle.model.specs.Inputs.{O, L, faultCount, Fault}
+use Rattle.model.specs.Refusals.{inputRows}
+use Rattle.model.specs.Accepted.{ValidInputs}
 use Rattle.model.specs.Values.{someOppose}
 use Rattle.model.specs.Simulation.{powerUp, outputsAt, plainOutputs}
 use Rattle.lanes.specs.Lane.{bit}
 use Rattle.lanes.proofs.Bits.{bit-none}
-use Rattle.job.specs.Job.{inputRows, Accepted}
 use Rattle.unit.specs.Unit.{Stuck}
-use Rattle.faults.specs.Given.{Group, laneFault, Given}
-use Rattle.faults.proofs.Group.{valid-group}
+use Rattle.faults.specs.Given.{Batch, laneFault, Given}
+use Rattle.faults.proofs.Batch.{valid-batch}
 use Rattle.run.specs.Run.{rowOf}
 use Rattle.exported.specs.Detected.{unbroken, acceptable, opposed, detected}
 
@@ -33,11 +34,11 @@ module _ (c t fs free : List ℕ) (j : ℕ) where
   unfolding detected acceptable unbroken
   all-accepted x e h d = rw (e, le-leb (L c t * O c) (length free) h) d
 
--- the whole list is a group
-pub whole-group : (c t fs : List ℕ) → Accepted c t 64 fs → Group fs 0 (length fs / 4) 4096
-whole-group c t fs a = count (valid-group c fs 0 (faultCount fs) 4096 (a .circuit) (a .fault) (omega arith) (a .few) (a .circuit .lines))
+-- the whole list is a batch
+pub whole-batch : (c t fs : List ℕ) → ValidInputs c t 0 64 fs → Batch fs 0 (length fs / 4) 4096
+whole-batch c t fs a = count (valid-batch c fs 0 (faultCount fs) 4096 (a .circuit) (a .fault) (omega arith) (a .few) (a .circuit .lines))
   where
-    count : Group fs 0 (faultCount fs) 4096 → Group fs 0 (length fs / 4) 4096
+    count : Batch fs 0 (faultCount fs) 4096 → Batch fs 0 (length fs / 4) 4096
     count g = unfold faultCount in g
 
 pub given-lane : (fs hits masks : List ℕ) → Given fs 0 (length fs / 4) hits masks → (j : ℕ) → j < 64 → Stuck j hits masks (laneFault fs 0 (faultCount fs) j)

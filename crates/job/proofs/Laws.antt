@@ -7,6 +7,7 @@ use native.Mathlib.Nat.{mul-le-mul}
 use native.Mathlib.Omega.{arith}
 use Rattle.lists.specs.Scan.{_else_}
 use Rattle.lists.proofs.Scan.{else-found, else-assoc}
+use Rattle.model.specs.Inputs.{O, L}
 use Rattle.model.specs.Refusals.{Refusal, inputRows}
 use Rattle.model.proofs.Accepted.{validInputs}
 use Rattle.rules.specs.Check.{refusalOf}
@@ -65,3 +66,7 @@ limited c t least most fs e of =
 -- the bytes that row 13 asks for, but for those of the lines
 pub area-limit : {j : Job} → Limited j → j .units * (4 * j .outputs + 16 * j .flops + 8) ≤ 1024 * 5128
 area-limit l = mul-le-mul {m₂ = 5128} (l .units) (omega (arith, l .outputs, l .flops))
+
+-- how many bytes the responses are
+pub response-size : {c t : List ℕ} {j : Job} → JobOf c t j → j .units * j .outputs ≡ L c t * O c
+response-size o = rw (o .units, o .outputs)

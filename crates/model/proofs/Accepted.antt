@@ -13,7 +13,7 @@ use native.Mathlib.Nat.{div-add-mod', zero-mul}
 use borrow.Author.Tests.{eqb-true, leb-true, leb-false, ltb-true, ltb-false, not-false, ne-eqb, le-leb}
 use Rattle.lists.specs.Scan.{firstAnswer}
 use Rattle.model.specs.Inputs.{N, kind, pinCount, pinLine, isFlipFlop, isGate, I, F, O, L, Fault, faultCount, faultAt, planCount}
-use Rattle.model.specs.Refusals.{refuse, row1, pinsFit, strayBytes, misnamed, misnames, rows2to5, row6, circuitRows, row7, row8, row9, faultFits, row10, row11, row12, row15, workBytes, row13, row14, inputRows, simulateRefusal, gradeRefusal, chooseRefusal, groupRefusal}
+use Rattle.model.specs.Refusals.{Refusal, Answer, done, refused, answer, unlessRefused, refuse, row1, pinsFit, strayBytes, misnamed, misnames, rows2to5, row6, circuitRows, row7, row8, row9, faultFits, row10, row11, row12, row15, workBytes, row13, row14, inputRows, simulateRefusal, gradeRefusal, chooseRefusal, groupRefusal}
 use Rattle.model.specs.Accepted.{ValidCircuit, ValidTest, ValidFault, ValidInputs, SimulateReady, GradeReady, ChooseReady, GroupReady}
 use Rattle.lists.proofs.Tests.{and-left, and-right, or-left-false, or-right-false}
 use Rattle.lists.proofs.Scan.{firstAnswer-none, anyBelow-false}
@@ -272,3 +272,21 @@ groupReady vs result e =
       most = ltb-false 524288 _ (or-right-false (not (eqb (length vs % 16) 0)) _ size);
       resultRoom = result-fits _ result (a .1);
     }
+
+-- ---- what a call returns and leaves in its result area, accepted or refused
+module _ (r : Refusal) where
+  pub answer-done : (size : ℕ) → r ≡ none → answer r size ≡ done size
+  unfolding answer
+  answer-done size e = rw e
+
+  pub answer-refused : (size : ℕ) (q : ℕ × ℕ) → r ≡ some q → answer r size ≡ refused (q .0) (q .1)
+  unfolding answer
+  answer-refused size q e = rw e
+
+  pub area-done : (new old : List ℕ) → r ≡ none → unlessRefused r new old ≡ new
+  unfolding unlessRefused
+  area-done new old e = rw e
+
+  pub area-refused : (new old : List ℕ) (q : ℕ × ℕ) → r ≡ some q → unlessRefused r new old ≡ old
+  unfolding unlessRefused
+  area-refused new old q e = rw e

@@ -5,19 +5,23 @@ use Rattle.simulate.proofs.Laws.{only-one, only-none, some-fault}
 use borrow.Author.Needs.{needs}
 use Rattle.simulate.proofs.give_only.Statement.{statement}
 use Rattle.simulate.proofs.give_only.Tie as tie
-use Rattle.simulate.proofs.give_only.Reads as reads
-use Rattle.simulate.proofs.give_only.Lts as lts
-use Rattle.circuit.proofs.fault_of.Reads as fault-of-reads
-use Rattle.faults.proofs.give_all.Reads as give-all-reads
+
+-- places
+abbrev start : tie.Then1 → tie.Start
+start c = c .before .before .before .before
+
+abbrev branch : tie.After-give-all → tie.After-fault-of
+branch c = c .before .before .before
 
 fault-of-requires : tie.Need-fault-of-requires
 fault-of-requires c κs = search needs
 
 give-all-requires : tie.Need-give-all-requires
 give-all-requires c κs =
-    let pre = c .before .before .before .before .before .before .before .pre in
-    let f = c .before .before .fault-of .ensures in
-    let fits = pre .3 (some-fault _ (c .before .before .before .if1 .taken)) in
+    let read = c .before .before in
+    let pre = start (read .before) .pre in
+    let f = read .fault-of .ensures in
+    let fits = pre .3 (some-fault _ (read .before .if1 .taken)) in
     (pre .0, omega (arith, f .line, fits .0), pre .2, omega (arith, f .pin, fits .1), omega (arith, f .value, fits .2))
 
 same-length : tie.Need-same-length
@@ -28,8 +32,10 @@ same-length-2 c = search needs
 
 returns : tie.Need-returns
 returns c =
-    let f = c .before .before .before .before .before .before .before .fault-of .ensures in
-    rw (only-one (c .before .before .before .before .before .before .before .before .before .before .before .before .args .fs .now) (c .before .before .before .before .before .before .before .before .if1 .taken)) (c .before .before .before .before .give-all .ensures .1 0 _ (omega arith) (sym (f .line)) (sym (f .pin)) (sym (f .value)))
+    let gave = c .before .before .before .before in
+    let read = branch gave in
+    let f = read .fault-of .ensures in
+    rw (only-one (start (read .before) .args .fs .now) (read .before .if1 .taken)) (gave .give-all .ensures .1 0 _ (omega arith) (sym (f .line)) (sym (f .pin)) (sym (f .value)))
 
 returns-2 : tie.Need-returns-2
 returns-2 c =

@@ -1,88 +1,121 @@
+use native.Mathlib.Omega.{arith}
+use native.Mathlib.Nat.{add-zero}
+use Rattle.model.specs.Simulation.{powerUp}
+use Rattle.model.proofs.ThreeValued.{powerUp-three}
+use Rattle.run.proofs.Laws.{length-powerUp}
+use Rattle.faults.proofs.Laws.{blank-zeros}
+use Rattle.simulate.proofs.Laws.{rows-plain}
 use borrow.Author.Needs.{needs}
 use Rattle.simulate.proofs.respond.Statement.{statement}
 use Rattle.simulate.proofs.respond.Tie as tie
-use Rattle.simulate.proofs.respond.Reads as reads
-use Rattle.simulate.proofs.respond.Lts as lts
-use Rattle.circuit.proofs.list_tables.Reads as list-tables-reads
-use Rattle.run.proofs.power_up.Reads as power-up-reads
-use Rattle.run.proofs.write_rows.Reads as write-rows-reads
-use Rattle.simulate.proofs.give_only.Reads as give-only-reads
 
--- src/lib.rt:40:40
+-- places
+abbrev start : tie.After-outs → tie.Start
+start c = c .before .before .before .before .before .before .before
+
+abbrev tabled : tie.After-masks → tie.After-list-tables
+tabled c = c .before .before .before .before .before
+
+abbrev given : tie.After-state → tie.After-give-only
+given c = c .before .before .before
+
+abbrev powered : tie.After-write-rows-arg → tie.After-power-up
+powered c = c .before .before .before .before .before .before .before .before .before
+
+abbrev ran : tie.After-slice-known2 → tie.After-write-rows
+ran c = c .before .before .before .before
+
 slice-aggregate-list-tables : tie.Need-slice-aggregate-list-tables
 slice-aggregate-list-tables c = search needs
 
--- src/lib.rt:40:51
 slice-aggregate-list-tables-2 : tie.Need-slice-aggregate-list-tables-2
 slice-aggregate-list-tables-2 c = search needs
 
--- src/lib.rt:40:63
 slice-aggregate-list-tables-3 : tie.Need-slice-aggregate-list-tables-3
 slice-aggregate-list-tables-3 c = search needs
 
--- src/lib.rt:40:5
 list-tables-requires : tie.Need-list-tables-requires
-list-tables-requires c κs = ?
+list-tables-requires c κs =
+    let pre = start c .pre in
+    (pre .0 .circuit, pre .1 .lines, omega (arith, pre .0 .circuit .lines, pre .1 .lines), omega arith, omega arith)
 
--- src/lib.rt:41:19
 slice-aggregate-give-only : tie.Need-slice-aggregate-give-only
 slice-aggregate-give-only c = search needs
 
--- src/lib.rt:41:30
 slice-aggregate-give-only-2 : tie.Need-slice-aggregate-give-only-2
 slice-aggregate-give-only-2 c = search needs
 
--- src/lib.rt:41:5
 give-only-requires : tie.Need-give-only-requires
-give-only-requires c κs = ?
+give-only-requires c κs =
+    let valid = start (tabled c .before) .pre .0 in (
+      blank-zeros 4096 2560,
+      omega arith,
+      omega arith,
+      (λ some.
+          let fault = valid .fault 0 some in
+          (omega (arith, fault .line, valid .circuit .lines), omega (arith, fault .pin, valid .circuit .few _ (fault .line)), omega (arith, fault .value))),
+    )
 
--- src/lib.rt:42:33
 slice-aggregate-power-up : tie.Need-slice-aggregate-power-up
 slice-aggregate-power-up c = search needs
 
--- src/lib.rt:42:5
 power-up-requires : tie.Need-power-up-requires
 power-up-requires c κs = search needs
 
--- src/lib.rt:48:9
 slice-aggregate-write-rows : tie.Need-slice-aggregate-write-rows
 slice-aggregate-write-rows c = search needs
 
--- src/lib.rt:49:9
 slice-aggregate-write-rows-2 : tie.Need-slice-aggregate-write-rows-2
 slice-aggregate-write-rows-2 c = search needs
 
--- src/lib.rt:50:9
 slice-aggregate-write-rows-3 : tie.Need-slice-aggregate-write-rows-3
 slice-aggregate-write-rows-3 c = search needs
 
--- src/lib.rt:51:9
 slice-aggregate-write-rows-4 : tie.Need-slice-aggregate-write-rows-4
 slice-aggregate-write-rows-4 c = search needs
 
--- src/lib.rt:52:9
 slice-aggregate-write-rows-5 : tie.Need-slice-aggregate-write-rows-5
 slice-aggregate-write-rows-5 c = search needs
 
--- src/lib.rt:53:9
 slice-aggregate-write-rows-6 : tie.Need-slice-aggregate-write-rows-6
 slice-aggregate-write-rows-6 c = search needs
 
--- src/lib.rt:54:9
 slice-aggregate-write-rows-7 : tie.Need-slice-aggregate-write-rows-7
 slice-aggregate-write-rows-7 c = search needs
 
--- src/lib.rt:43:5
 write-rows-requires : tie.Need-write-rows-requires
-write-rows-requires c κs = ?
+write-rows-requires c κs =
+    let power = powered c in
+    let give = given (power .before) in
+    let tables = tabled (give .before) in
+    let pre = start (tables .before) .pre in
+    let valid = pre .0 in (
+      record {
+        circuit = valid .circuit;
+        test = valid .test;
+        sizes = pre .1;
+        tables = tables .list-tables .ensures;
+        hitRoom = omega (arith, valid .circuit .lines, power .before .before .before .hits2 .given);
+        maskRoom = omega (arith, power .before .before .masks2 .given);
+        lineRoom = omega (arith, valid .circuit .lines);
+        stateRoom = omega (arith, valid .circuit .flipFlops, c .before .before .before .before .before .before .before .before .state2 .given);
+      },
+      omega arith,
+      omega arith,
+      rw add-zero (pre .2),
+    )
 
--- src/lib.rt:29:1
 same-length : tie.Need-same-length
 same-length c = search needs
 
--- src/lib.rt:29:1
 returns : tie.Need-returns
-returns c = ?
+returns c =
+    let power = powered (ran c .before) in
+    let give = given (power .before) in
+    let begin = start (tabled (give .before) .before) in
+    let cs = begin .args .c .now in
+    rw (← (rows-plain cs (begin .args .t .now) (begin .args .fs .now)))
+    (ran c .write-rows .ensures _ (powerUp cs) (give .give-only .ensures) (power .power-up .ensures 0) (length-powerUp cs) (powerUp-three cs))
 
 pub respond-spec : {M : Type 1} → statement M
 respond-spec =

@@ -1,42 +1,68 @@
+use mathlib.Core.Path.{_≡_, refl, sym, ap, _∙_}
+use mathlib.Core.Option.{none}
+use native.Mathlib.Omega.{arith}
+use native.Mathlib.Nat.{mul-le-mul}
+use lib.ListN.{length}
+use Rattle.model.specs.Refusals.{done, simulateRefusal}
+use Rattle.model.specs.Simulate.{simulateAnswer, simulateArea}
+use Rattle.model.proofs.Accepted.{simulateReady, answer-done, answer-refused, area-done, area-refused}
+use Rattle.job.specs.Job.{answerOf, JobOf}
+use Rattle.job.proofs.Laws.{ready-none, broken-some, response-size}
 use borrow.Author.Needs.{needs}
 use Rattle.simulate.proofs.simulate.Statement.{statement}
 use Rattle.simulate.proofs.simulate.Tie as tie
-use Rattle.simulate.proofs.simulate.Reads as reads
-use Rattle.simulate.proofs.simulate.Lts as lts
-use Rattle.job.proofs.check_simulate.Reads as check-simulate-reads
-use Rattle.simulate.proofs.respond.Reads as respond-reads
 
--- src/lib.rt:72:11
+-- places
+abbrev checked : tie.After-job → tie.After-check-simulate
+checked c = c .before .before
+
+abbrev job : tie.After-struct-known → tie.After-job
+job c = c .before .before .before .before .before .before
+
+abbrev start : tie.After-check-simulate → tie.Start
+start c = c .before .before .before .before .before .before
+
+-- no row is broken
+passed : (c : tie.After-job) → let s = start (checked c) .args in simulateRefusal (s .circuit .now) (s .test .now) (s .faults .now) (length (s .work .now)) (length (s .result .now)) ≡ none
+passed c = ready-none (checked c .check-simulate .ensures) (c .job .given .1)
+
+sizes : (c : tie.After-job) → JobOf (start (checked c) .args .circuit .now) (start (checked c) .args .test .now) (c .job .given .0 .0)
+sizes c = checked c .check-simulate .ensures .job _ (c .job .given .1)
+
 check-simulate-requires : tie.Need-check-simulate-requires
 check-simulate-requires c κs = search needs
 
--- src/lib.rt:73:28
 enum-known-rule : tie.Need-enum-known-rule
 enum-known-rule c = search needs
 
--- src/lib.rt:74:25
 enum-known-job : tie.Need-enum-known-job
 enum-known-job c = search needs
 
--- src/lib.rt:75:13
 respond-requires : tie.Need-respond-requires
-respond-requires c κs = ?
+respond-requires c κs =
+    let case = c .before .before in
+    let ready = simulateReady _ _ _ _ _ (passed case) in
+    (ready .inputs, sizes case, ready .resultRoom)
 
--- src/lib.rt:76:27
 mul-t16 : tie.Need-mul-t16
-mul-t16 c = ?
+mul-t16 c =
+    let valid = simulateReady _ _ _ _ _ (passed (job c)) .inputs in
+    omega (arith, response-size (sizes (job c)), mul-le-mul (valid .test .most) (valid .circuit .outputs))
 
--- src/lib.rt:61:1
 returns : tie.Need-returns
-returns c = ?
+unfolding answerOf simulateAnswer simulateArea
+returns c =
+    let broken = broken-some (c .before .before .before .check-simulate .ensures) (c .before .rule .given .1) in
+    (sym (answer-refused _ _ _ broken), (sym (area-refused _ _ _ _ broken), refl))
 
--- src/lib.rt:61:1
 same-length : tie.Need-same-length
 same-length c = search needs
 
--- src/lib.rt:61:1
 returns-2 : tie.Need-returns-2
-returns-2 c = ?
+unfolding answerOf simulateAnswer simulateArea
+returns-2 c =
+    let none = passed (job c) in
+    (ap done (response-size (sizes (job c))) ∙ sym (answer-done _ _ none), (c .before .before .before .respond .ensures ∙ sym (area-done _ _ _ none), refl))
 
 pub simulate-spec : {M : Type 1} → statement M
 simulate-spec =
