@@ -6,15 +6,6 @@ use borrow.Author.Needs.{needs}
 use Rattle.circuit.proofs.field.Statement.{statement}
 use Rattle.circuit.proofs.field.Tie as tie
 
-mul-result : tie.Need-mul-result
-mul-result c = search needs
-
-add-result : tie.Need-add-result
-add-result c = search needs
-
-shared-slice-read-result : tie.Need-shared-slice-read-result
-shared-slice-read-result c = search needs
-
 returns : tie.Need-returns
 unfolding kind pinCount outputMark spareByte
 returns c = record {
@@ -26,4 +17,4 @@ returns c = record {
 }
 
 pub field-spec : {M : Type 1} → statement M
-field-spec = tie.close (tie.spec mul-result add-result shared-slice-read-result returns)
+field-spec = tie.close (tie.spec (λ c. search needs) (λ c. search needs) (λ c. search needs) returns)

@@ -10,9 +10,6 @@ use Rattle.circuit.specs.Table.{Listed, byteIsOne}
 use Rattle.circuit.proofs.Laws.{listed-none, listed-room, length-turn, listed-turn}
 use Rattle.circuit.proofs.list_lines.Statement.{statement}
 use Rattle.circuit.proofs.list_lines.Tie as tie
-use Rattle.circuit.proofs.list_lines.Reads as reads
-use Rattle.circuit.proofs.list_lines.Lts as lts
-use Rattle.circuit.proofs.list_if.Reads as list-if-reads
 
 abbrev Inv-loop : tie.InvT-loop
 Inv-loop c lines byte table₀ s₀ n₀ table s n =
@@ -25,15 +22,6 @@ loop-holds : tie.Need-loop-holds Inv-loop μ-loop
 unfolding countBelow
 loop-holds c = (omega arith, omega arith, refl, refl, listed-none _ _)
 
-mul-list-if : tie.Need-mul-list-if Inv-loop μ-loop
-mul-list-if c = omega arith
-
-add-list-if : tie.Need-add-list-if Inv-loop μ-loop
-add-list-if c = omega arith
-
-shared-slice-read-list-if : tie.Need-shared-slice-read-list-if Inv-loop μ-loop
-shared-slice-read-list-if c = omega arith
-
 list-if-requires : tie.Need-list-if-requires Inv-loop μ-loop
 unfolding byteIsOne
 list-if-requires c κs =
@@ -43,12 +31,6 @@ list-if-requires c κs =
       omega (arith, start .pre .1),
       listed-room _ _ _ _ _ (λ m. byteIsOne (start .args .c .now) (start .args .byte) m) (start .pre .3) (inv .2) (inv .3) (c .before .before .loop-test .taken),
     )
-
-add-n : tie.Need-add-n Inv-loop μ-loop
-add-n c = omega arith
-
-loop-less : tie.Need-loop-less Inv-loop μ-loop
-loop-less c = omega arith
 
 loop-again : tie.Need-loop-again Inv-loop μ-loop
 unfolding byteIsOne
@@ -83,12 +65,12 @@ list-lines-spec =
     Inv-loop
     μ-loop
     loop-holds
-    mul-list-if
-    add-list-if
-    shared-slice-read-list-if
+    (λ c. omega arith)
+    (λ c. omega arith)
+    (λ c. omega arith)
     list-if-requires
-    add-n
-    loop-less
+    (λ c. omega arith)
+    (λ c. omega arith)
     loop-again
     same-length
     returns)

@@ -9,9 +9,6 @@ use Rattle.circuit.specs.Table.{pinNumber}
 use Rattle.circuit.proofs.Laws.{numbered-more}
 use Rattle.circuit.proofs.list_pins.Statement.{statement}
 use Rattle.circuit.proofs.list_pins.Tie as tie
-use Rattle.circuit.proofs.list_pins.Reads as reads
-use Rattle.circuit.proofs.list_pins.Lts as lts
-use Rattle.circuit.proofs.pin_number.Reads as pin-number-reads
 
 abbrev Inv-loop : tie.InvT-loop
 Inv-loop c lines table₀ e₀ table e = (e ≤ 4 * lines) × (length table ≡ length table₀) × ((i : ℕ) → i < e → isGate c (i / 4) ≡ true → getD table i 0 ≡ pinNumber c (i / 4) (i % 4 + 1))
@@ -37,9 +34,6 @@ loop-holds c = (omega arith, refl, λ i h g. absurd (let z : ⊥ = omega arith i
 
 mul-loop : tie.Need-mul-loop Inv-loop μ-loop
 mul-loop c = omega (arith, small c)
-
-add-pin-number : tie.Need-add-pin-number Inv-loop μ-loop
-add-pin-number c = omega arith
 
 pin-number-requires : tie.Need-pin-number-requires Inv-loop μ-loop
 pin-number-requires c κs = let pre = start (c .before) .pre in (pre .0, omega (arith, pre .1, c .loop-test .taken), omega arith, omega arith)
@@ -78,7 +72,7 @@ list-pins-spec =
     μ-loop
     loop-holds
     mul-loop
-    add-pin-number
+    (λ c. omega arith)
     pin-number-requires
     mul-table
     slice-write-table

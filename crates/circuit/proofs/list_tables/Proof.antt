@@ -16,9 +16,6 @@ flopped c = c .before .before .before
 abbrev start : tie.After-list-pins → tie.Start
 start c = c .before .before .before .before .before .before
 
-list-pins-requires : tie.Need-list-pins-requires
-list-pins-requires c κs = search needs
-
 list-lines-requires : tie.Need-list-lines-requires
 list-lines-requires c κs =
     let pre = start (pinned c) .pre in
@@ -29,15 +26,6 @@ list-lines-requires-2 c κs =
     let begin = start (pinned (flopped c .before)) in
     let pre = begin .pre in
     rw (pre .1, outputs-bytes (begin .args .c .now) .1) (pre .0 .size, pre .0 .lines, omega arith, omega (arith, pre .0 .outputs, pre .4))
-
-same-length : tie.Need-same-length
-same-length c = search needs
-
-same-length-2 : tie.Need-same-length-2
-same-length-2 c = search needs
-
-same-length-3 : tie.Need-same-length-3
-same-length-3 c = search needs
 
 returns : tie.Need-returns
 returns c =
@@ -54,4 +42,4 @@ returns c =
 pub list-tables-spec : {M : Type 1} → statement M
 list-tables-spec =
     tie.close
-    (tie.spec list-pins-requires list-lines-requires list-lines-requires-2 same-length same-length-2 same-length-3 returns)
+    (tie.spec (λ c κs. search needs) list-lines-requires list-lines-requires-2 (λ c. search needs) (λ c. search needs) (λ c. search needs) returns)

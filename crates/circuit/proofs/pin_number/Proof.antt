@@ -8,12 +8,6 @@ use Rattle.circuit.proofs.Laws.{is-gate, pin-read-has, pin-read-lower}
 use borrow.Author.Needs.{needs}
 use Rattle.circuit.proofs.pin_number.Statement.{statement}
 use Rattle.circuit.proofs.pin_number.Tie as tie
-use Rattle.circuit.proofs.pin_number.Reads as reads
-use Rattle.circuit.proofs.pin_number.Lts as lts
-use Rattle.basics.proofs.one_if.Reads as one-if-reads
-use Rattle.circuit.proofs.pin_of.Reads as pin-of-reads
-use Rattle.circuit.proofs.pin_read.Reads as pin-read-reads
-use Rattle.circuit.proofs.pins_of.Reads as pins-of-reads
 
 -- the pin that is read: one that the gate has, of a lower line
 record ReadOf (c : tie.Start) (q : ℕ) : Type 0 where
@@ -34,29 +28,11 @@ pin-read-of c =
     read-of (c .before .before .before .before .before) _ _ _ (c .before .before .before .field .ensures .kind refl) (omega (arith, c .before .before .if1 .left))
     (c .before .pins-of .ensures .0) (c .pin-read .ensures)
 
-field-requires : tie.Need-field-requires
-field-requires c κs = search needs
-
 returns : tie.Need-returns
 returns c = λ g. absurd (let z : ⊥ = omega (arith, gate-kind _ _ g, c .before .field .ensures .kind refl) in z)
 
-pins-of-requires : tie.Need-pins-of-requires
-pins-of-requires c κs = search needs
-
-pin-read-requires : tie.Need-pin-read-requires
-pin-read-requires c κs = search needs
-
 pin-of-requires : tie.Need-pin-of-requires
 pin-of-requires c κs = let r = pin-read-of c in let pre = c .before .before .before .before .before .pre in (omega (arith, pre .0 .size, pre .1), r .few, r .most)
-
-mul-number : tie.Need-mul-number
-mul-number c = search needs
-
-one-if-requires : tie.Need-one-if-requires
-one-if-requires c κs = search needs
-
-add-number : tie.Need-add-number
-add-number c = search needs
 
 cast-result : tie.Need-cast-result
 cast-result c =
@@ -72,13 +48,13 @@ pub pin-number-spec : {M : Type 1} → statement M
 pin-number-spec =
     tie.close
     (tie.spec
-    field-requires
+    (λ c κs. search needs)
     returns
-    pins-of-requires
-    pin-read-requires
+    (λ c κs. search needs)
+    (λ c κs. search needs)
     pin-of-requires
-    mul-number
-    one-if-requires
-    add-number
+    (λ c. search needs)
+    (λ c κs. search needs)
+    (λ c. search needs)
     cast-result
     returns-2)

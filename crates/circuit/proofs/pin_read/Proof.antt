@@ -3,8 +3,6 @@ use borrow.Author.Tests.{le-leb, lt-leb}
 use Rattle.circuit.specs.Table.{pinRead}
 use Rattle.circuit.proofs.pin_read.Statement.{statement}
 use Rattle.circuit.proofs.pin_read.Tie as tie
-use Rattle.circuit.proofs.pin_read.Reads as reads
-use Rattle.circuit.proofs.pin_read.Lts as lts
 
 returns : tie.Need-returns
 unfolding pinRead

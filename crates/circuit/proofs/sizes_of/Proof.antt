@@ -7,9 +7,6 @@ use Rattle.model.specs.Inputs.{isInput, isFlipFlop, isOutput, kind, I, F, O}
 use Rattle.lists.proofs.Scan.{countBelow-turn}
 use Rattle.circuit.proofs.sizes_of.Statement.{statement}
 use Rattle.circuit.proofs.sizes_of.Tie as tie
-use Rattle.circuit.proofs.sizes_of.Reads as reads
-use Rattle.circuit.proofs.sizes_of.Lts as lts
-use Rattle.basics.proofs.one_if.Reads as one-if-reads
 
 abbrev Inv-loop : tie.InvT-loop
 Inv-loop c lines inputs₀ flops₀ outputs₀ n₀ inputs flops outputs n =
@@ -26,32 +23,8 @@ loop-holds c = (omega arith, omega arith, omega arith, omega arith, refl, refl, 
 field-requires : tie.Need-field-requires Inv-loop μ-loop
 field-requires c κs = (omega arith, omega arith)
 
-one-if-requires : tie.Need-one-if-requires Inv-loop μ-loop
-one-if-requires c κs = tt
-
-add-inputs : tie.Need-add-inputs Inv-loop μ-loop
-add-inputs c = omega arith
-
-one-if-requires-2 : tie.Need-one-if-requires-2 Inv-loop μ-loop
-one-if-requires-2 c κs = tt
-
-add-flops : tie.Need-add-flops Inv-loop μ-loop
-add-flops c = omega arith
-
 field-requires-2 : tie.Need-field-requires-2 Inv-loop μ-loop
 field-requires-2 c κs = (omega arith, omega arith)
-
-one-if-requires-3 : tie.Need-one-if-requires-3 Inv-loop μ-loop
-one-if-requires-3 c κs = tt
-
-add-outputs : tie.Need-add-outputs Inv-loop μ-loop
-add-outputs c = omega arith
-
-add-n : tie.Need-add-n Inv-loop μ-loop
-add-n c = omega arith
-
-loop-less : tie.Need-loop-less Inv-loop μ-loop
-loop-less c = omega arith
 
 loop-again : tie.Need-loop-again Inv-loop μ-loop
 unfolding isInput isFlipFlop isOutput
@@ -84,14 +57,14 @@ sizes-of-spec =
     μ-loop
     loop-holds
     field-requires
-    one-if-requires
-    add-inputs
-    one-if-requires-2
-    add-flops
+    (λ c κs. tt)
+    (λ c. omega arith)
+    (λ c κs. tt)
+    (λ c. omega arith)
     field-requires-2
-    one-if-requires-3
-    add-outputs
-    add-n
-    loop-less
+    (λ c κs. tt)
+    (λ c. omega arith)
+    (λ c. omega arith)
+    (λ c. omega arith)
     loop-again
     returns)

@@ -28,15 +28,6 @@ passed c = ready-none (checked c .check-inputs .ensures) (c .job .given .1)
 sizes : (c : tie.After-job) → JobOf (start (checked c) .args .circuit .now) (start (checked c) .args .test .now) (c .job .given .0 .0)
 sizes c = checked c .check-inputs .ensures .job _ (c .job .given .1)
 
-check-inputs-requires : tie.Need-check-inputs-requires
-check-inputs-requires c κs = search needs
-
-enum-known-rule : tie.Need-enum-known-rule
-enum-known-rule c = search needs
-
-enum-known-job : tie.Need-enum-known-job
-enum-known-job c = search needs
-
 mul-if1 : tie.Need-mul-if1
 mul-if1 c =
     let valid = validInputs _ _ _ _ _ (passed (job c)) in
@@ -62,9 +53,9 @@ pub balithoomai-detected-spec : {M : Type 1} → statement M
 balithoomai-detected-spec =
     tie.close
     (tie.spec
-    check-inputs-requires
-    enum-known-rule
-    enum-known-job
+    (λ c κs. search needs)
+    (λ c. search needs)
+    (λ c. search needs)
     mul-if1
     returns
     detect-requires

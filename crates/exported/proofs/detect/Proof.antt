@@ -23,55 +23,13 @@ given c = c .before .before .before
 abbrev powered : tie.After-state3 → tie.After-state2
 powered c = c .before .before .before .before .before .before .before
 
-slice-aggregate-list-tables : tie.Need-slice-aggregate-list-tables
-slice-aggregate-list-tables c = search needs
-
-slice-aggregate-list-tables-2 : tie.Need-slice-aggregate-list-tables-2
-slice-aggregate-list-tables-2 c = search needs
-
-slice-aggregate-list-tables-3 : tie.Need-slice-aggregate-list-tables-3
-slice-aggregate-list-tables-3 c = search needs
-
 list-tables-requires : tie.Need-list-tables-requires
 list-tables-requires c κs =
     let pre = start c .pre in
     (pre .0 .circuit, pre .1 .lines, omega (arith, pre .0 .circuit .lines, pre .1 .lines), omega arith, omega arith)
 
-slice-aggregate-give-batch : tie.Need-slice-aggregate-give-batch
-slice-aggregate-give-batch c = search needs
-
-slice-aggregate-give-batch-2 : tie.Need-slice-aggregate-give-batch-2
-slice-aggregate-give-batch-2 c = search needs
-
 give-batch-requires : tie.Need-give-batch-requires
 give-batch-requires c κs = (blank-zeros 4096 2560, whole-batch _ _ _ (start (tabled c .before) .pre .0), omega arith, omega arith)
-
-slice-aggregate-power-up : tie.Need-slice-aggregate-power-up
-slice-aggregate-power-up c = search needs
-
-power-up-requires : tie.Need-power-up-requires
-power-up-requires c κs = search needs
-
-slice-aggregate-opposing-ever : tie.Need-slice-aggregate-opposing-ever
-slice-aggregate-opposing-ever c = search needs
-
-slice-aggregate-opposing-ever-2 : tie.Need-slice-aggregate-opposing-ever-2
-slice-aggregate-opposing-ever-2 c = search needs
-
-slice-aggregate-opposing-ever-3 : tie.Need-slice-aggregate-opposing-ever-3
-slice-aggregate-opposing-ever-3 c = search needs
-
-slice-aggregate-opposing-ever-4 : tie.Need-slice-aggregate-opposing-ever-4
-slice-aggregate-opposing-ever-4 c = search needs
-
-slice-aggregate-opposing-ever-5 : tie.Need-slice-aggregate-opposing-ever-5
-slice-aggregate-opposing-ever-5 c = search needs
-
-slice-aggregate-opposing-ever-6 : tie.Need-slice-aggregate-opposing-ever-6
-slice-aggregate-opposing-ever-6 c = search needs
-
-slice-aggregate-opposing-ever-7 : tie.Need-slice-aggregate-opposing-ever-7
-slice-aggregate-opposing-ever-7 c = search needs
 
 opposing-ever-requires : tie.Need-opposing-ever-requires
 opposing-ever-requires c κs =
@@ -108,21 +66,21 @@ pub detect-spec : {M : Type 1} → statement M
 detect-spec =
     tie.close
     (tie.spec
-    slice-aggregate-list-tables
-    slice-aggregate-list-tables-2
-    slice-aggregate-list-tables-3
+    (λ c. search needs)
+    (λ c. search needs)
+    (λ c. search needs)
     list-tables-requires
-    slice-aggregate-give-batch
-    slice-aggregate-give-batch-2
+    (λ c. search needs)
+    (λ c. search needs)
     give-batch-requires
-    slice-aggregate-power-up
-    power-up-requires
-    slice-aggregate-opposing-ever
-    slice-aggregate-opposing-ever-2
-    slice-aggregate-opposing-ever-3
-    slice-aggregate-opposing-ever-4
-    slice-aggregate-opposing-ever-5
-    slice-aggregate-opposing-ever-6
-    slice-aggregate-opposing-ever-7
+    (λ c. search needs)
+    (λ c κs. search needs)
+    (λ c. search needs)
+    (λ c. search needs)
+    (λ c. search needs)
+    (λ c. search needs)
+    (λ c. search needs)
+    (λ c. search needs)
+    (λ c. search needs)
     opposing-ever-requires
     returns)

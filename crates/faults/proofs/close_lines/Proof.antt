@@ -35,12 +35,6 @@ slice-write-hits c =
     let loop = turn c .loop in
     omega (arith, c .fault-of .ensures .line, start (turn c) .pre .0 .line (loop .t) (c .before .loop-test .taken), loop .inv .1)
 
-add-t : tie.Need-add-t Inv-loop μ-loop
-add-t c = omega arith
-
-loop-less : tie.Need-loop-less Inv-loop μ-loop
-loop-less c = omega arith
-
 loop-again : tie.Need-loop-again Inv-loop μ-loop
 loop-again c = let inv = turn c .loop .inv in (
   omega arith,
@@ -64,8 +58,8 @@ close-lines-spec =
     add-fault-of
     fault-of-requires
     slice-write-hits
-    add-t
-    loop-less
+    (λ c. omega arith)
+    (λ c. omega arith)
     loop-again
     same-length
     returns)

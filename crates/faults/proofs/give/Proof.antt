@@ -21,44 +21,11 @@ made c = c .before .before .before
 with-row : (c : tie.Joined1) → Rowed (start c .args .t) (now (start c .args .hits)) (c .if1 .hits) (now (start c .args .masks)) (start c .args .line)
 with-row c = ⊎-elim (λ w. rowed-now _ _ _ (omega arith) (w .1) (w .0 .taken)) (λ w. rowed-before (w .1) (w .0 .left)) (c .if1 .came)
 
-slice-read-if1 : tie.Need-slice-read-if1
-slice-read-if1 c = search needs
-
-add-hits : tie.Need-add-hits
-add-hits c = search needs
-
-cast-hits : tie.Need-cast-hits
-cast-hits c = search needs
-
-slice-write-hits : tie.Need-slice-write-hits
-slice-write-hits c = search needs
-
 slice-read-wide : tie.Need-slice-read-wide
 slice-read-wide c = omega (arith, with-row (c .before) .size)
 
-wide-requires : tie.Need-wide-requires
-wide-requires c κs = search needs
-
-mul-at : tie.Need-mul-at
-mul-at c = search needs
-
-add-at : tie.Need-add-at
-add-at c = search needs
-
-read-requires : tie.Need-read-requires
-read-requires c κs = search needs
-
-with-requires : tie.Need-with-requires
-with-requires c κs = search needs
-
-store-requires : tie.Need-store-requires
-store-requires c κs = search needs
-
 same-length : tie.Need-same-length
 same-length c = with-row (joined (made c .before .before)) .size
-
-same-length-2 : tie.Need-same-length-2
-same-length-2 c = search needs
 
 returns : tie.Need-returns
 returns c =
@@ -75,17 +42,17 @@ pub give-spec : {M : Type 1} → statement M
 give-spec =
     tie.close
     (tie.spec
-    slice-read-if1
-    add-hits
-    cast-hits
-    slice-write-hits
+    (λ c. search needs)
+    (λ c. search needs)
+    (λ c. search needs)
+    (λ c. search needs)
     slice-read-wide
-    wide-requires
-    mul-at
-    add-at
-    read-requires
-    with-requires
-    store-requires
+    (λ c κs. search needs)
+    (λ c. search needs)
+    (λ c. search needs)
+    (λ c κs. search needs)
+    (λ c κs. search needs)
+    (λ c κs. search needs)
     same-length
-    same-length-2
+    (λ c. search needs)
     returns)

@@ -51,12 +51,6 @@ give-requires c κs =
       omega (arith, f .value, batch .value (loop .t) taken),
     )
 
-add-t : tie.Need-add-t Inv-loop μ-loop
-add-t c = omega arith
-
-loop-less : tie.Need-loop-less Inv-loop μ-loop
-loop-less c = omega arith
-
 loop-again : tie.Need-loop-again Inv-loop μ-loop
 loop-again c =
     let gave = c .before .before .before .before in
@@ -88,8 +82,8 @@ give-batch-spec =
     add-fault-of
     fault-of-requires
     give-requires
-    add-t
-    loop-less
+    (λ c. omega arith)
+    (λ c. omega arith)
     loop-again
     same-length
     same-length-2

@@ -4,14 +4,6 @@ use Rattle.lanes.proofs.Laws.{turned-read}
 use borrow.Author.Needs.{needs}
 use Rattle.lanes.proofs.read_turned.Statement.{statement}
 use Rattle.lanes.proofs.read_turned.Tie as tie
-use Rattle.lanes.proofs.read_turned.Reads as reads
-use Rattle.lanes.proofs.read_turned.Lts as lts
-
-mul-t4 : tie.Need-mul-t4
-mul-t4 c = search needs
-
-shared-slice-read-t6 : tie.Need-shared-slice-read-t6
-shared-slice-read-t6 c = search needs
 
 mul-t7 : tie.Need-mul-t7
 mul-t7 c = omega (arith, c .before .pre, c .before .fits, other-near (c .before .args .number))
@@ -24,4 +16,4 @@ returns c = λ m turned e. turned-read (c .before .before .args .words .now) _ m
 
 pub read-turned-spec : {M : Type 1} → statement M
 read-turned-spec =
-    tie.close (tie.spec mul-t4 shared-slice-read-t6 mul-t7 shared-slice-read-t9 returns)
+    tie.close (tie.spec (λ c. search needs) (λ c. search needs) mul-t7 shared-slice-read-t9 returns)

@@ -56,9 +56,6 @@ read-requires c κs = omega (arith, at (c .before) .below, start (c .before .bef
 shared-slice-read-opposing : tie.Need-shared-slice-read-opposing Inv-loop μ-loop
 shared-slice-read-opposing c = inside (turn (c .before))
 
-opposing-requires : tie.Need-opposing-requires Inv-loop μ-loop
-opposing-requires c κs = tt
-
 add-o : tie.Need-add-o Inv-loop μ-loop
 add-o c = omega (arith, turn (c .before .before) .loop-test .taken)
 
@@ -93,7 +90,7 @@ opposing-spec =
     shared-slice-read-read
     read-requires
     shared-slice-read-opposing
-    opposing-requires
+    (λ c κs. tt)
     add-o
     loop-less
     loop-again

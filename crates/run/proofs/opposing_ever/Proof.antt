@@ -96,12 +96,6 @@ values-at-requires c κs =
     let pre = start (inside .before) .pre in
     values-asked _ _ _ _ _ _ _ _ _ _ (pre .0) _ _ (inv .1) (inv .2) _ (omega (arith, inside .loop-test .taken, pre .1, pre .0 .sizes .units))
 
-sub-opposing : tie.Need-sub-opposing Inv-loop μ-loop
-sub-opposing c = omega arith
-
-part-opposing-start : tie.Need-part-opposing-start Inv-loop μ-loop
-part-opposing-start c = omega arith
-
 part-opposing-end : tie.Need-part-opposing-end Inv-loop μ-loop
 part-opposing-end c =
     let inside = in-loop (worded c .before) in
@@ -181,8 +175,8 @@ opposing-ever-spec =
     mul-at
     add-to
     values-at-requires
-    sub-opposing
-    part-opposing-start
+    (λ c. omega arith)
+    (λ c. omega arith)
     part-opposing-end
     opposing-requires
     same-length

@@ -7,27 +7,6 @@ use Rattle.run.proofs.values_at.Tie as tie
 abbrev entry : tie.After-simulate-unit → tie.Start
 entry c = c .before .before .before .before .before .before .before .before .before .before
 
-mul-at : tie.Need-mul-at
-mul-at c = search needs
-
-add-to : tie.Need-add-to
-add-to c = search needs
-
-sub-simulate-unit : tie.Need-sub-simulate-unit
-sub-simulate-unit c = search needs
-
-part-simulate-unit-start : tie.Need-part-simulate-unit-start
-part-simulate-unit-start c = search needs
-
-part-simulate-unit-end : tie.Need-part-simulate-unit-end
-part-simulate-unit-end c = search needs
-
-simulate-unit-requires : tie.Need-simulate-unit-requires
-simulate-unit-requires c κs = search needs
-
-same-length : tie.Need-same-length
-same-length c = search needs
-
 returns : tie.Need-returns
 returns c = λ lane f st s l e.
     let start = entry (c .before .before) in
@@ -37,11 +16,11 @@ pub values-at-spec : {M : Type 1} → statement M
 values-at-spec =
     tie.close
     (tie.spec
-    mul-at
-    add-to
-    sub-simulate-unit
-    part-simulate-unit-start
-    part-simulate-unit-end
-    simulate-unit-requires
-    same-length
+    (λ c. search needs)
+    (λ c. search needs)
+    (λ c. search needs)
+    (λ c. search needs)
+    (λ c. search needs)
+    (λ c κs. search needs)
+    (λ c. search needs)
     returns)

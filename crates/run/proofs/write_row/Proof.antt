@@ -17,25 +17,10 @@ shown c = c .before .before
 abbrev kept : tie.After-slice-known3 → tie.After-write-state
 kept c = c .before .before
 
-write-outputs-requires : tie.Need-write-outputs-requires
-write-outputs-requires c κs = search needs
-
-sub-write-state : tie.Need-sub-write-state
-sub-write-state c = search needs
-
-part-write-state-start : tie.Need-part-write-state-start
-part-write-state-start c = search needs
-
-part-write-state-end : tie.Need-part-write-state-end
-part-write-state-end c = search needs
-
 write-state-requires : tie.Need-write-state-requires
 write-state-requires c κs =
     let pre = entry (shown (c .before)) .pre in
     (pre .4, pre .5, rw length-lent (omega (arith, pre .6, c .before .before .area .given)))
-
-same-length : tie.Need-same-length
-same-length c = search needs
 
 returns : tie.Need-returns
 returns c = λ f vs st s l e w ls es ws.
@@ -48,10 +33,10 @@ pub write-row-spec : {M : Type 1} → statement M
 write-row-spec =
     tie.close
     (tie.spec
-    write-outputs-requires
-    sub-write-state
-    part-write-state-start
-    part-write-state-end
+    (λ c κs. search needs)
+    (λ c. search needs)
+    (λ c. search needs)
+    (λ c. search needs)
     write-state-requires
-    same-length
+    (λ c. search needs)
     returns)

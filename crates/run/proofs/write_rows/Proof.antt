@@ -79,9 +79,6 @@ sub-write-row c = let inside = in-loop (worded c .before) in omega (arith, room 
 part-write-row-start : tie.Need-part-write-row-start Inv-loop μ-loop
 part-write-row-start c = let inside = in-loop (worded c .before) in omega (arith, room inside .fits, turn inside .loop .inv .3)
 
-part-write-row-end : tie.Need-part-write-row-end Inv-loop μ-loop
-part-write-row-end c = search needs
-
 write-row-requires : tie.Need-write-row-requires Inv-loop μ-loop
 write-row-requires c κs =
     let inside = in-loop (worded (c .before) .before) in
@@ -172,7 +169,7 @@ write-rows-spec =
     values-at-requires
     sub-write-row
     part-write-row-start
-    part-write-row-end
+    (λ c. search needs)
     write-row-requires
     next-state-requires
     add-u

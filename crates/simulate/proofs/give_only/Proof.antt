@@ -13,9 +13,6 @@ start c = c .before .before .before .before
 abbrev branch : tie.After-give-all → tie.After-fault-of
 branch c = c .before .before .before
 
-fault-of-requires : tie.Need-fault-of-requires
-fault-of-requires c κs = search needs
-
 give-all-requires : tie.Need-give-all-requires
 give-all-requires c κs =
     let read = c .before .before in
@@ -23,12 +20,6 @@ give-all-requires c κs =
     let f = read .fault-of .ensures in
     let fits = pre .3 (some-fault _ (read .before .if1 .taken)) in
     (pre .0, omega (arith, f .line, fits .0), pre .2, omega (arith, f .pin, fits .1), omega (arith, f .value, fits .2))
-
-same-length : tie.Need-same-length
-same-length c = search needs
-
-same-length-2 : tie.Need-same-length-2
-same-length-2 c = search needs
 
 returns : tie.Need-returns
 returns c =
@@ -45,4 +36,4 @@ returns-2 c =
 pub give-only-spec : {M : Type 1} → statement M
 give-only-spec =
     tie.close
-    (tie.spec fault-of-requires give-all-requires same-length same-length-2 returns returns-2)
+    (tie.spec (λ c κs. search needs) give-all-requires (λ c. search needs) (λ c. search needs) returns returns-2)

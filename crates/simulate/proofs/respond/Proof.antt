@@ -25,25 +25,10 @@ powered c = c .before .before .before .before .before .before .before .before .b
 abbrev ran : tie.After-slice-known2 → tie.After-write-rows
 ran c = c .before .before .before .before
 
-slice-aggregate-list-tables : tie.Need-slice-aggregate-list-tables
-slice-aggregate-list-tables c = search needs
-
-slice-aggregate-list-tables-2 : tie.Need-slice-aggregate-list-tables-2
-slice-aggregate-list-tables-2 c = search needs
-
-slice-aggregate-list-tables-3 : tie.Need-slice-aggregate-list-tables-3
-slice-aggregate-list-tables-3 c = search needs
-
 list-tables-requires : tie.Need-list-tables-requires
 list-tables-requires c κs =
     let pre = start c .pre in
     (pre .0 .circuit, pre .1 .lines, omega (arith, pre .0 .circuit .lines, pre .1 .lines), omega arith, omega arith)
-
-slice-aggregate-give-only : tie.Need-slice-aggregate-give-only
-slice-aggregate-give-only c = search needs
-
-slice-aggregate-give-only-2 : tie.Need-slice-aggregate-give-only-2
-slice-aggregate-give-only-2 c = search needs
 
 give-only-requires : tie.Need-give-only-requires
 give-only-requires c κs =
@@ -55,33 +40,6 @@ give-only-requires c κs =
           let fault = valid .fault 0 some in
           (omega (arith, fault .line, valid .circuit .lines), omega (arith, fault .pin, valid .circuit .few _ (fault .line)), omega (arith, fault .value))),
     )
-
-slice-aggregate-power-up : tie.Need-slice-aggregate-power-up
-slice-aggregate-power-up c = search needs
-
-power-up-requires : tie.Need-power-up-requires
-power-up-requires c κs = search needs
-
-slice-aggregate-write-rows : tie.Need-slice-aggregate-write-rows
-slice-aggregate-write-rows c = search needs
-
-slice-aggregate-write-rows-2 : tie.Need-slice-aggregate-write-rows-2
-slice-aggregate-write-rows-2 c = search needs
-
-slice-aggregate-write-rows-3 : tie.Need-slice-aggregate-write-rows-3
-slice-aggregate-write-rows-3 c = search needs
-
-slice-aggregate-write-rows-4 : tie.Need-slice-aggregate-write-rows-4
-slice-aggregate-write-rows-4 c = search needs
-
-slice-aggregate-write-rows-5 : tie.Need-slice-aggregate-write-rows-5
-slice-aggregate-write-rows-5 c = search needs
-
-slice-aggregate-write-rows-6 : tie.Need-slice-aggregate-write-rows-6
-slice-aggregate-write-rows-6 c = search needs
-
-slice-aggregate-write-rows-7 : tie.Need-slice-aggregate-write-rows-7
-slice-aggregate-write-rows-7 c = search needs
 
 write-rows-requires : tie.Need-write-rows-requires
 write-rows-requires c κs =
@@ -105,9 +63,6 @@ write-rows-requires c κs =
       rw add-zero (pre .2),
     )
 
-same-length : tie.Need-same-length
-same-length c = search needs
-
 returns : tie.Need-returns
 returns c =
     let power = powered (ran c .before) in
@@ -121,22 +76,22 @@ pub respond-spec : {M : Type 1} → statement M
 respond-spec =
     tie.close
     (tie.spec
-    slice-aggregate-list-tables
-    slice-aggregate-list-tables-2
-    slice-aggregate-list-tables-3
+    (λ c. search needs)
+    (λ c. search needs)
+    (λ c. search needs)
     list-tables-requires
-    slice-aggregate-give-only
-    slice-aggregate-give-only-2
+    (λ c. search needs)
+    (λ c. search needs)
     give-only-requires
-    slice-aggregate-power-up
-    power-up-requires
-    slice-aggregate-write-rows
-    slice-aggregate-write-rows-2
-    slice-aggregate-write-rows-3
-    slice-aggregate-write-rows-4
-    slice-aggregate-write-rows-5
-    slice-aggregate-write-rows-6
-    slice-aggregate-write-rows-7
+    (λ c. search needs)
+    (λ c κs. search needs)
+    (λ c. search needs)
+    (λ c. search needs)
+    (λ c. search needs)
+    (λ c. search needs)
+    (λ c. search needs)
+    (λ c. search needs)
+    (λ c. search needs)
     write-rows-requires
-    same-length
+    (λ c. search needs)
     returns)

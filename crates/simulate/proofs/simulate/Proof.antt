@@ -29,15 +29,6 @@ passed c = ready-none (checked c .check-simulate .ensures) (c .job .given .1)
 sizes : (c : tie.After-job) → JobOf (start (checked c) .args .circuit .now) (start (checked c) .args .test .now) (c .job .given .0 .0)
 sizes c = checked c .check-simulate .ensures .job _ (c .job .given .1)
 
-check-simulate-requires : tie.Need-check-simulate-requires
-check-simulate-requires c κs = search needs
-
-enum-known-rule : tie.Need-enum-known-rule
-enum-known-rule c = search needs
-
-enum-known-job : tie.Need-enum-known-job
-enum-known-job c = search needs
-
 respond-requires : tie.Need-respond-requires
 respond-requires c κs =
     let case = c .before .before in
@@ -55,9 +46,6 @@ returns c =
     let broken = broken-some (c .before .before .before .check-simulate .ensures) (c .before .rule .given .1) in
     (sym (answer-refused _ _ _ broken), (sym (area-refused _ _ _ _ broken), refl))
 
-same-length : tie.Need-same-length
-same-length c = search needs
-
 returns-2 : tie.Need-returns-2
 unfolding answerOf simulateAnswer simulateArea
 returns-2 c =
@@ -68,11 +56,11 @@ pub simulate-spec : {M : Type 1} → statement M
 simulate-spec =
     tie.close
     (tie.spec
-    check-simulate-requires
-    enum-known-rule
-    enum-known-job
+    (λ c κs. search needs)
+    (λ c. search needs)
+    (λ c. search needs)
     respond-requires
     mul-t16
     returns
-    same-length
+    (λ c. search needs)
     returns-2)

@@ -91,47 +91,20 @@ all c t f vs turned or free l e =
 asked : (s : tie.Start) (e i : ℕ) → e ≡ 4 * s .args .n + i → i < 4 → (e < length (s .args .pins .now)) × (2 * (getD (s .args .pins .now) e 0 / 2 + 1) ≤ length (s .args .words .now))
 asked s e i at h = (omega (arith, s .pre .5 .room, s .pre .1), omega (arith, s .pre .6, low s e i at h))
 
-mul-e : tie.Need-mul-e
-mul-e c = search needs
-
 table-lanes-requires : tie.Need-table-lanes-requires
 table-lanes-requires c κs = asked (c .before .before .before) _ 0 (omega arith) (omega arith)
-
-add-table-lanes : tie.Need-add-table-lanes
-add-table-lanes c = search needs
 
 table-lanes-requires-2 : tie.Need-table-lanes-requires-2
 table-lanes-requires-2 c κs = asked (start c) _ 1 refl (omega arith)
 
-add-table-lanes-2 : tie.Need-add-table-lanes-2
-add-table-lanes-2 c = search needs
-
 table-lanes-requires-3 : tie.Need-table-lanes-requires-3
 table-lanes-requires-3 c κs = asked (start (c .before)) _ 2 refl (omega arith)
-
-add-table-lanes-3 : tie.Need-add-table-lanes-3
-add-table-lanes-3 c = search needs
 
 table-lanes-requires-4 : tie.Need-table-lanes-requires-4
 table-lanes-requires-4 c κs = asked (start (third c)) _ 3 refl (omega arith)
 
-and-requires : tie.Need-and-requires
-and-requires c κs = search needs
-
-and-requires-2 : tie.Need-and-requires-2
-and-requires-2 c κs = search needs
-
-and-requires-3 : tie.Need-and-requires-3
-and-requires-3 c κs = search needs
-
-finish-requires : tie.Need-finish-requires
-finish-requires c κs = search needs
-
 add-finish : tie.Need-add-finish
 add-finish c = omega (arith, start (third (fourth (c .before) .before)) .pre .4)
-
-finish-requires-2 : tie.Need-finish-requires-2
-finish-requires-2 c κs = search needs
 
 returns : tie.Need-returns
 unfolding invertIf pinsSeen
@@ -162,19 +135,19 @@ pub and-gate-spec : {M : Type 1} → statement M
 and-gate-spec =
     tie.close
     (tie.spec
-    mul-e
+    (λ c. search needs)
     table-lanes-requires
-    add-table-lanes
+    (λ c. search needs)
     table-lanes-requires-2
-    add-table-lanes-2
+    (λ c. search needs)
     table-lanes-requires-3
-    add-table-lanes-3
+    (λ c. search needs)
     table-lanes-requires-4
-    and-requires
-    and-requires-2
-    and-requires-3
-    finish-requires
+    (λ c κs. search needs)
+    (λ c κs. search needs)
+    (λ c κs. search needs)
+    (λ c κs. search needs)
     add-finish
-    finish-requires-2
+    (λ c κs. search needs)
     returns
     returns-2)

@@ -25,14 +25,8 @@ bit c = let pre = start (c .before) .pre in omega (arith, pre .8, state-place _ 
 shared-slice-read-all : tie.Need-shared-slice-read-all
 shared-slice-read-all c = input (c .before)
 
-all-requires : tie.Need-all-requires
-all-requires c κs = search needs
-
 read-requires : tie.Need-read-requires
 read-requires c κs = omega (arith, start (c .before) .pre .10, bit c)
-
-any-gate-requires : tie.Need-any-gate-requires
-any-gate-requires c κs = search needs
 
 returns : tie.Need-returns
 returns c = λ t f st vs l s ls es h eh.
@@ -54,9 +48,9 @@ behind-lanes-spec =
     tie.close
     (tie.spec
     shared-slice-read-all
-    all-requires
+    (λ c κs. search needs)
     read-requires
-    any-gate-requires
+    (λ c κs. search needs)
     returns
     returns-2
     returns-3)

@@ -54,14 +54,8 @@ kinds s = (s .pre .3, omega (arith, s .pre .0 .kinds _ (s .pre .1), s .pre .2))
 single : (s : tie.Start) (t z o v : ℕ) → Shows t z o v → Shows t z o (evenGate (s .args .k / 2) (v ∷ []))
 single s t z o v h = shows-single t z o v h (s .args .k / 2) (omega (arith, kinds s .0)) (omega (arith, kinds s .1))
 
-pins-of-requires : tie.Need-pins-of-requires
-pins-of-requires c κs = search needs
-
 pin-lanes-requires : tie.Need-pin-lanes-requires
 pin-lanes-requires c κs = asked (start c) 1 (omega arith) (has-pin (start c))
-
-finish-requires : tie.Need-finish-requires
-finish-requires c κs = search needs
 
 returns : tie.Need-returns
 returns c = λ t f vs s l e.
@@ -76,9 +70,6 @@ pin-lanes-requires-2 c κs = asked (start (c .before .before)) 2 (omega arith) (
 
 combine-requires : tie.Need-combine-requires
 combine-requires c κs = kinds (start (second (c .before) .before))
-
-finish-requires-2 : tie.Need-finish-requires-2
-finish-requires-2 c κs = search needs
 
 returns-2 : tie.Need-returns-2
 returns-2 c = λ t f vs s l e.
@@ -99,9 +90,6 @@ combine-requires-2 c κs = kinds (start (second (third (c .before)) .before))
 
 combine-requires-3 : tie.Need-combine-requires-3
 combine-requires-3 c κs = kinds (start (second (third (c .before .before)) .before))
-
-finish-requires-3 : tie.Need-finish-requires-3
-finish-requires-3 c κs = search needs
 
 returns-3 : tie.Need-returns-3
 returns-3 c = λ t f vs s l e.
@@ -129,9 +117,6 @@ combine-requires-5 c κs = kinds (start (second (third (fourth (c .before))) .be
 combine-requires-6 : tie.Need-combine-requires-6
 combine-requires-6 c κs = kinds (start (second (third (fourth (c .before .before))) .before))
 
-finish-requires-4 : tie.Need-finish-requires-4
-finish-requires-4 c κs = search needs
-
 returns-4 : tie.Need-returns-4
 returns-4 c = λ t f vs s l e.
     let p4 = c .before .before .before .before in
@@ -153,22 +138,22 @@ pub gate-lanes-spec : {M : Type 1} → statement M
 gate-lanes-spec =
     tie.close
     (tie.spec
-    pins-of-requires
+    (λ c κs. search needs)
     pin-lanes-requires
-    finish-requires
+    (λ c κs. search needs)
     returns
     pin-lanes-requires-2
     combine-requires
-    finish-requires-2
+    (λ c κs. search needs)
     returns-2
     pin-lanes-requires-3
     combine-requires-2
     combine-requires-3
-    finish-requires-3
+    (λ c κs. search needs)
     returns-3
     pin-lanes-requires-4
     combine-requires-4
     combine-requires-5
     combine-requires-6
-    finish-requires-4
+    (λ c κs. search needs)
     returns-4)

@@ -51,9 +51,6 @@ shared-slice-read-n c = at (c .before) .place
 shared-slice-read-wide : tie.Need-shared-slice-read-wide Inv-loop μ-loop
 shared-slice-read-wide c = let in-loop = c .before .before in omega (arith, at in-loop .below, start (in-loop .before) .pre .3)
 
-wide-requires : tie.Need-wide-requires Inv-loop μ-loop
-wide-requires c κs = tt
-
 pin-lanes-requires : tie.Need-pin-lanes-requires Inv-loop μ-loop
 pin-lanes-requires c κs =
     let in-loop = turn (c .before) in
@@ -63,12 +60,6 @@ pin-lanes-requires c κs =
 
 store-requires : tie.Need-store-requires Inv-loop μ-loop
 store-requires c κs = room (turn (rowed c))
-
-add-s : tie.Need-add-s Inv-loop μ-loop
-add-s c = omega arith
-
-loop-less : tie.Need-loop-less Inv-loop μ-loop
-loop-less c = omega arith
 
 loop-again : tie.Need-loop-again Inv-loop μ-loop
 loop-again c =
@@ -102,11 +93,11 @@ next-state-spec =
     mul-n
     shared-slice-read-n
     shared-slice-read-wide
-    wide-requires
+    (λ c κs. tt)
     pin-lanes-requires
     store-requires
-    add-s
-    loop-less
+    (λ c. omega arith)
+    (λ c. omega arith)
     loop-again
     same-length
     returns)

@@ -8,18 +8,6 @@ use Rattle.unit.proofs.seen_at.Tie as tie
 returns : tie.Need-returns
 returns c = λ t f n v s h. seen-free t _ _ v _ _ f n _ s (c .if1 .taken) h
 
-mul-read : tie.Need-mul-read
-mul-read c = search needs
-
-add-read : tie.Need-add-read
-add-read c = search needs
-
-read-requires : tie.Need-read-requires
-read-requires c κs = search needs
-
-stuck-requires : tie.Need-stuck-requires
-stuck-requires c κs = search needs
-
 returns-2 : tie.Need-returns-2
 returns-2 c = λ t f n v s h.
     seen-held t _ _ v _ _ f n _ s (c .before .before .if1 .left) (omega arith)
@@ -28,4 +16,4 @@ returns-2 c = λ t f n v s h.
 pub seen-at-spec : {M : Type 1} → statement M
 seen-at-spec =
     tie.close
-    (tie.spec returns mul-read add-read read-requires stuck-requires returns-2)
+    (tie.spec returns (λ c. search needs) (λ c. search needs) (λ c κs. search needs) (λ c κs. search needs) returns-2)

@@ -57,9 +57,6 @@ field-requires c κs = let pre = start (c .before) .pre in (omega (arith, c .loo
 shared-slice-read-wide : tie.Need-shared-slice-read-wide Inv-loop μ-loop
 shared-slice-read-wide c = let in-loop = c .before .before in omega (arith, in-loop .loop-test .taken, start (in-loop .before) .pre .3)
 
-wide-requires : tie.Need-wide-requires Inv-loop μ-loop
-wide-requires c κs = tt
-
 behind-lanes-requires : tie.Need-behind-lanes-requires Inv-loop μ-loop
 behind-lanes-requires c κs =
     let in-loop = turn (c .before) in
@@ -84,16 +81,10 @@ seen-at-requires c κs = let row = c .before .before .before in (start (turn row
 store-requires : tie.Need-store-requires Inv-loop μ-loop
 store-requires c κs = room (turn (rowed c))
 
-one-if-requires : tie.Need-one-if-requires Inv-loop μ-loop
-one-if-requires c κs = tt
-
 add-i : tie.Need-add-i Inv-loop μ-loop
 add-i c =
     let in-loop = turn (rowed (c .before .before .before .before)) in
     omega (arith, few (in-loop .before), in-loop .loop-test .taken, in-loop .before .loop .inv .1, c .one-if .ensures .1)
-
-one-if-requires-2 : tie.Need-one-if-requires-2 Inv-loop μ-loop
-one-if-requires-2 c κs = tt
 
 add-s : tie.Need-add-s Inv-loop μ-loop
 add-s c =
@@ -143,13 +134,13 @@ simulate-unit-spec =
     loop-holds
     field-requires
     shared-slice-read-wide
-    wide-requires
+    (λ c κs. tt)
     behind-lanes-requires
     seen-at-requires
     store-requires
-    one-if-requires
+    (λ c κs. tt)
     add-i
-    one-if-requires-2
+    (λ c κs. tt)
     add-s
     add-n
     loop-less

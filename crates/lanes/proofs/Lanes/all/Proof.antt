@@ -2,8 +2,6 @@ use native.Mathlib.Omega.{arith}
 use Rattle.lanes.proofs.Laws.{shows-0, shows-1, shows-x}
 use Rattle.lanes.proofs.Lanes.all.Statement.{statement}
 use Rattle.lanes.proofs.Lanes.all.Tie as tie
-use Rattle.lanes.proofs.Lanes.all.Reads as reads
-use Rattle.lanes.proofs.Lanes.all.Lts as lts
 
 returns : tie.Need-returns
 returns c = λ t h. rw (c .match .keys1) (shows-0 t h)

@@ -3,20 +3,6 @@ use native.Mathlib.Omega.{arith}
 use borrow.Author.Needs.{needs}
 use Rattle.lanes.proofs.Lanes.combine.Statement.{statement}
 use Rattle.lanes.proofs.Lanes.combine.Tie as tie
-use Rattle.lanes.proofs.Lanes.combine.Reads as reads
-use Rattle.lanes.proofs.Lanes.combine.Lts as lts
-use Rattle.lanes.proofs.Lanes.and.Reads as and-reads
-use Rattle.lanes.proofs.Lanes.or.Reads as or-reads
-use Rattle.lanes.proofs.Lanes.xor.Reads as xor-reads
-
-and-requires : tie.Need-and-requires
-and-requires c κs = search needs
-
-or-requires : tie.Need-or-requires
-or-requires c κs = search needs
-
-xor-requires : tie.Need-xor-requires
-xor-requires c κs = search needs
 
 returns : tie.Need-returns
 returns c = λ t v ws h g. more-1 t _ _ _ v ws (omega arith) h
@@ -33,4 +19,4 @@ returns-4 c = λ t v ws h g. more-4 t _ _ _ v ws (omega arith) (λ w e. c .xor .
 pub combine-spec : {M : Type 1} → statement M
 combine-spec =
     tie.close
-    (tie.spec and-requires or-requires xor-requires returns returns-2 returns-3 returns-4)
+    (tie.spec (λ c κs. search needs) (λ c κs. search needs) (λ c κs. search needs) returns returns-2 returns-3 returns-4)

@@ -3,12 +3,6 @@ use Rattle.model.specs.Values.{invertIf}
 use borrow.Author.Needs.{needs}
 use Rattle.lanes.proofs.Lanes.finish.Statement.{statement}
 use Rattle.lanes.proofs.Lanes.finish.Tie as tie
-use Rattle.lanes.proofs.Lanes.finish.Reads as reads
-use Rattle.lanes.proofs.Lanes.finish.Lts as lts
-use Rattle.lanes.proofs.Lanes.invert.Reads as invert-reads
-
-invert-requires : tie.Need-invert-requires
-invert-requires c κs = search needs
 
 returns : tie.Need-returns
 unfolding invertIf
@@ -19,4 +13,4 @@ unfolding invertIf
 returns-2 c = λ t v h. rw (ne-eqb _ _ (c .if1 .left)) h
 
 pub finish-spec : {M : Type 1} → statement M
-finish-spec = tie.close (tie.spec invert-requires returns returns-2)
+finish-spec = tie.close (tie.spec (λ c κs. search needs) returns returns-2)

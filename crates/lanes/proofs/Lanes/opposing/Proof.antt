@@ -2,8 +2,6 @@ use native.Mathlib.Omega.{arith}
 use Rattle.lanes.proofs.Laws.{opposing-0, opposing-1, opposing-X}
 use Rattle.lanes.proofs.Lanes.opposing.Statement.{statement}
 use Rattle.lanes.proofs.Lanes.opposing.Tie as tie
-use Rattle.lanes.proofs.Lanes.opposing.Reads as reads
-use Rattle.lanes.proofs.Lanes.opposing.Lts as lts
 
 returns : tie.Need-returns
 returns c = λ t v h. opposing-0 t _ _ v _ h (c .match .keys1)
