@@ -1,5 +1,5 @@
 -- What a job's check gives, and how rows are joined to it.
-use mathlib.Core.Path.{_≡_, refl, sym, ap, _∙_}
+use mathlib.Core.Path.{_≡_, sym, ap, _∙_}
 use mathlib.Core.List.{List}
 use mathlib.Core.Option.{none, some}
 use Prim.Native.Nat.{ℕ, _+_, _*_, _≤_}
@@ -49,9 +49,11 @@ module _ {c t : List ℕ} {rows : Refusal} where
   pub joined-ready : {before r : JobCheck} {j : Job} {later : Check} {more : Refusal} → JobChecked c t rows before → before ≡ Ready j → (JobOf c t j → refusalOf later ≡ more) → Unless (Ready j) later r → JobChecked c t (rows else more) r
   joined-ready checked e asked u = let job = checked .job _ e in joined (is-ready (ready-none checked e) job) (asked job) u
 
+-- the table joins its rows from the right
 pub regrouped : {c t : List ℕ} {r : JobCheck} (a b d : Refusal) → JobChecked c t ((a else b) else d) r → JobChecked c t (a else (b else d)) r
 regrouped a b d checked = rw (else-assoc a b d) at checked
 
+-- the sizes of a job whose inputs are accepted
 pub limited : (c t : List ℕ) (least most : ℕ) (fs : List ℕ) {j : Job} → inputRows c t least most fs ≡ none → JobOf c t j → Limited j
 limited c t least most fs e of =
     let valid = validInputs c t least most fs e in

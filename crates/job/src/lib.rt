@@ -141,15 +141,18 @@ pub fn check_inputs(c: &[u8], t: &[u8], fs: &[u8], least: usize, most: usize) ->
     match rules::check_circuit(c) {
         CircuitCheck::Broken { rule, at } => JobCheck::Broken { rule, at },
         CircuitCheck::Sized(s) => {
-            let faults = check_count(fs, least, most).or(check_each(c, s.lines, fs));
-            let later = check_units(t, s.inputs).or(check_bytes(t).or(faults));
-            JobCheck::Ready(Job {
+            let job = Job {
                 lines: s.lines,
                 inputs: s.inputs,
                 flops: s.flops,
                 outputs: s.outputs,
                 units: t.len() / s.inputs,
-            }).unless(later)
+            };
+            JobCheck::Ready(job)
+                .unless(check_units(t, s.inputs))
+                .unless(check_bytes(t))
+                .unless(check_count(fs, least, most))
+                .unless(check_each(c, s.lines, fs))
         }
     }
 }
