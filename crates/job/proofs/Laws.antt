@@ -7,8 +7,8 @@ use native.Mathlib.Nat.{mul-le-mul}
 use native.Mathlib.Omega.{arith}
 use Rattle.lists.specs.Scan.{_else_}
 use Rattle.lists.proofs.Scan.{else-found, else-assoc}
-use Rattle.model.specs.Refusals.{Refusal, inputRows}
-use Rattle.model.proofs.Accepted.{validInputs}
+use Rattle.model.specs.Accepted.{ValidInputs}
+use Rattle.model.specs.Refusals.{Refusal}
 use Rattle.rules.specs.Check.{refusalOf}
 use Rattle.rules.specs.declared.Check.{Check}
 use Rattle.job.specs.Job.{jobRefusalOf, JobOf, JobChecked, Unless, Limited}
@@ -54,15 +54,13 @@ pub regrouped : {c t : List ℕ} {r : JobCheck} (a b d : Refusal) → JobChecked
 regrouped a b d checked = rw (else-assoc a b d) at checked
 
 -- the sizes of a job whose inputs are accepted
-pub limited : (c t : List ℕ) (least most : ℕ) (fs : List ℕ) {j : Job} → inputRows c t least most fs ≡ none → JobOf c t j → Limited j
-limited c t least most fs e of =
-    let valid = validInputs c t least most fs e in
-    record {
-      lines = rw (of .lines) (valid .circuit .lines);
-      flops = rw (of .flops) (valid .circuit .flipFlops);
-      outputs = rw (of .outputs) (valid .circuit .outputs);
-      units = rw (of .units) (valid .test .most);
-    }
+pub limited : {c t fs : List ℕ} {least most : ℕ} {j : Job} → ValidInputs c t least most fs → JobOf c t j → Limited j
+limited valid of = record {
+  lines = rw (of .lines) (valid .circuit .lines);
+  flops = rw (of .flops) (valid .circuit .flipFlops);
+  outputs = rw (of .outputs) (valid .circuit .outputs);
+  units = rw (of .units) (valid .test .most);
+}
 
 -- the bytes that row 13 asks for, but for those of the lines
 pub area-limit : {j : Job} → Limited j → j .units * (4 * j .outputs + 16 * j .flops + 8) ≤ 1024 * 5128

@@ -5,7 +5,7 @@ use borrow.Author.Tests.{ltb-false}
 use Rattle.lists.specs.Scan.{_else_}
 use Rattle.lists.proofs.Scan.{else-none}
 use Rattle.model.specs.Refusals.{row12, inputRows, chooseRefusal}
-use Rattle.model.proofs.Accepted.{refuse-none}
+use Rattle.model.proofs.Accepted.{refuse-none, validInputs}
 use Rattle.job.specs.Job.{JobChecked}
 use Rattle.job.proofs.Laws.{ready-none, stays-broken, joined, joined-ready, regrouped, limited}
 use borrow.Author.Needs.{needs}
@@ -30,7 +30,7 @@ unfolding row12
 mul-check-areas c = omega (arith, ltb-false 12 (start (c .before .before .before) .args .k) (refuse-none _ 12 0 (passed (c .before) .1)))
 
 check-areas-requires : tie.Need-check-areas-requires
-check-areas-requires c κs = limited _ _ _ _ _ (passed (c .before) .0) (checked (c .before .before .before) .job _ (c .before .rows2 .given .1))
+check-areas-requires c κs = limited (validInputs _ _ _ _ _ (passed (c .before) .0)) (checked (c .before .before .before) .job _ (c .before .rows2 .given .1))
 
 returns : tie.Need-returns
 unfolding chooseRefusal

@@ -1,9 +1,8 @@
-use mathlib.Core.Path.{_≡_}
-use mathlib.Core.Option.{none}
 use native.Mathlib.Omega.{arith}
 use Rattle.lists.specs.Scan.{_else_}
 use Rattle.lists.proofs.Scan.{else-none}
 use Rattle.model.specs.Inputs.{faultCount}
+use Rattle.model.specs.Accepted.{ValidInputs}
 use Rattle.model.specs.Refusals.{row11, row12, inputRows, gradeRefusal}
 use Rattle.model.proofs.Accepted.{validInputs}
 use Rattle.job.specs.Job.{JobChecked}
@@ -27,15 +26,15 @@ checked c =
     joined (joined (inputs (planned c) .check-inputs .ensures) (planned c .before .check-plan .ensures) (planned c .unless .ensures))
     (c .before .check-k .ensures) (c .unless2 .ensures)
 
-passed : (c : tie.After-rows2) → let s = start (c .before .before) .args in inputRows (s .c .now) (s .t .now) 0 32768 (s .fs .now) ≡ none
-passed c = else-none _ _ (else-none _ _ (ready-none (checked (c .before .before)) (c .rows2 .given .1)) .0) .0
+valid : (c : tie.After-rows2) → let s = start (c .before .before) .args in ValidInputs (s .c .now) (s .t .now) 0 32768 (s .fs .now)
+valid c = validInputs _ _ _ _ _ (else-none _ _ (else-none _ _ (ready-none (checked (c .before .before)) (c .rows2 .given .1)) .0) .0)
 
 mul-check-areas : tie.Need-mul-check-areas
 unfolding faultCount
-mul-check-areas c = omega (arith, validInputs _ _ _ _ _ (passed (c .before)) .few)
+mul-check-areas c = omega (arith, valid (c .before) .few)
 
 check-areas-requires : tie.Need-check-areas-requires
-check-areas-requires c κs = limited _ _ _ _ _ (passed (c .before)) (checked (c .before .before .before) .job _ (c .before .rows2 .given .1))
+check-areas-requires c κs = limited (valid (c .before)) (checked (c .before .before .before) .job _ (c .before .rows2 .given .1))
 
 returns : tie.Need-returns
 unfolding gradeRefusal faultCount

@@ -1,6 +1,7 @@
 use native.Mathlib.Nat.{mul-le-mul}
 use native.Mathlib.Omega.{arith}
 use Rattle.model.specs.Refusals.{simulateRefusal}
+use Rattle.model.proofs.Accepted.{validInputs}
 use Rattle.job.specs.Job.{JobOf, Limited}
 use Rattle.job.proofs.Laws.{ready-none, stays-broken, joined-ready, limited}
 use borrow.Author.Needs.{needs}
@@ -23,7 +24,7 @@ job : (c : tie.After-rows2) → JobOf (start (inputs c) .args .c .now) (start (i
 job c = inputs c .check-inputs .ensures .job _ (c .rows2 .given .1)
 
 limits : (c : tie.After-rows2) → Limited (c .rows2 .given .0 .0)
-limits c = limited _ _ _ _ _ (ready-none (inputs c .check-inputs .ensures) (c .rows2 .given .1)) (job c)
+limits c = limited (validInputs _ _ _ _ _ (ready-none (inputs c .check-inputs .ensures) (c .rows2 .given .1))) (job c)
 
 mul-check-areas : tie.Need-mul-check-areas
 mul-check-areas c = let l = limits (ready c) in omega (arith, mul-le-mul (l .units) (l .outputs))
