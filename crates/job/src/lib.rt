@@ -5,7 +5,7 @@ ghost use mathlib.Core.Path.{_≡_};
 ghost use Prim.Native.Nat.{ℕ, _+_, _*_, _<_, _≤_};
 ghost use lib.ListN.{length};
 ghost use Rattle.lists.specs.Scan.{_else_};
-ghost use Rattle.model.specs.Inputs.{N, I, faultAt, faultCount};
+ghost use Rattle.model.specs.Inputs.{N, I, faultAt};
 ghost use Rattle.model.specs.Refusals.{row7, row8, row9, faultFits, row10, row11, row12, row13, row14, inputRows, simulateRefusal, gradeRefusal, chooseRefusal, groupRefusal};
 ghost use Rattle.rules.specs.Check.{refusalOf};
 ghost use Rattle.job.specs.Job.{JobOf, JobChecked, Unless, Limited};
