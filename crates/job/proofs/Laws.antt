@@ -1,5 +1,5 @@
 -- What a job's check gives, and how rows are joined to it.
-use mathlib.Core.Path.{_≡_, refl, sym, ap, _∙_}
+use mathlib.Core.Path.{_≡_, sym, ap, _∙_}
 use mathlib.Core.List.{List}
 use mathlib.Core.Option.{none, some}
 use Prim.Native.Nat.{ℕ, _+_, _*_, _≤_}
@@ -8,8 +8,8 @@ use native.Mathlib.Omega.{arith}
 use Rattle.lists.specs.Scan.{_else_}
 use Rattle.lists.proofs.Scan.{else-found, else-assoc}
 use Rattle.model.specs.Inputs.{O, L}
-use Rattle.model.specs.Refusals.{Refusal, inputRows}
-use Rattle.model.proofs.Accepted.{validInputs}
+use Rattle.model.specs.Accepted.{ValidInputs}
+use Rattle.model.specs.Refusals.{Refusal}
 use Rattle.rules.specs.Check.{refusalOf}
 use Rattle.rules.specs.declared.Check.{Check}
 use Rattle.job.specs.Job.{jobRefusalOf, JobOf, JobChecked, Unless, Limited}
@@ -50,18 +50,18 @@ module _ {c t : List ℕ} {rows : Refusal} where
   pub joined-ready : {before r : JobCheck} {j : Job} {later : Check} {more : Refusal} → JobChecked c t rows before → before ≡ Ready j → (JobOf c t j → refusalOf later ≡ more) → Unless (Ready j) later r → JobChecked c t (rows else more) r
   joined-ready checked e asked u = let job = checked .job _ e in joined (is-ready (ready-none checked e) job) (asked job) u
 
+-- the table joins its rows from the right
 pub regrouped : {c t : List ℕ} {r : JobCheck} (a b d : Refusal) → JobChecked c t ((a else b) else d) r → JobChecked c t (a else (b else d)) r
 regrouped a b d checked = rw (else-assoc a b d) at checked
 
-pub limited : (c t : List ℕ) (least most : ℕ) (fs : List ℕ) {j : Job} → inputRows c t least most fs ≡ none → JobOf c t j → Limited j
-limited c t least most fs e of =
-    let valid = validInputs c t least most fs e in
-    record {
-      lines = rw (of .lines) (valid .circuit .lines);
-      flops = rw (of .flops) (valid .circuit .flipFlops);
-      outputs = rw (of .outputs) (valid .circuit .outputs);
-      units = rw (of .units) (valid .test .most);
-    }
+-- the sizes of a job whose inputs are accepted
+pub limited : {c t fs : List ℕ} {least most : ℕ} {j : Job} → ValidInputs c t least most fs → JobOf c t j → Limited j
+limited valid of = record {
+  lines = rw (of .lines) (valid .circuit .lines);
+  flops = rw (of .flops) (valid .circuit .flipFlops);
+  outputs = rw (of .outputs) (valid .circuit .outputs);
+  units = rw (of .units) (valid .test .most);
+}
 
 -- the bytes that row 13 asks for, but for those of the lines
 pub area-limit : {j : Job} → Limited j → j .units * (4 * j .outputs + 16 * j .flops + 8) ≤ 1024 * 5128

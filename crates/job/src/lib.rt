@@ -5,7 +5,7 @@ ghost use mathlib.Core.Path.{_≡_};
 ghost use Prim.Native.Nat.{ℕ, _+_, _*_, _<_, _≤_};
 ghost use lib.ListN.{length};
 ghost use Rattle.lists.specs.Scan.{_else_};
-ghost use Rattle.model.specs.Inputs.{N, I, faultAt, faultCount};
+ghost use Rattle.model.specs.Inputs.{N, I, faultAt};
 ghost use Rattle.model.specs.Refusals.{row7, row8, row9, faultFits, row10, row11, row12, row13, row14, inputRows, simulateRefusal, gradeRefusal, chooseRefusal, groupRefusal};
 ghost use Rattle.rules.specs.Check.{refusalOf};
 ghost use Rattle.job.specs.Job.{JobOf, JobChecked, Unless, Limited};
@@ -141,15 +141,18 @@ pub fn check_inputs(c: &[u8], t: &[u8], fs: &[u8], least: usize, most: usize) ->
     match rules::check_circuit(c) {
         CircuitCheck::Broken { rule, at } => JobCheck::Broken { rule, at },
         CircuitCheck::Sized(s) => {
-            let faults = check_count(fs, least, most).or(check_each(c, s.lines, fs));
-            let later = check_units(t, s.inputs).or(check_bytes(t).or(faults));
-            JobCheck::Ready(Job {
+            let job = Job {
                 lines: s.lines,
                 inputs: s.inputs,
                 flops: s.flops,
                 outputs: s.outputs,
                 units: t.len() / s.inputs,
-            }).unless(later)
+            };
+            JobCheck::Ready(job)
+                .unless(check_units(t, s.inputs))
+                .unless(check_bytes(t))
+                .unless(check_count(fs, least, most))
+                .unless(check_each(c, s.lines, fs))
         }
     }
 }

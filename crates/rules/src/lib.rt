@@ -47,6 +47,15 @@ impl Check {
     }
 }
 
+// Row 1.
+fn check_length(c: &[u8]) -> Check
+    ensures { λ r. ⌜ refusalOf r ≡ row1 (now (c .entry)) ⌝ }
+{
+    let size = c.len();
+    let ragged = basics::either(size == 0, size % 12 != 0);
+    Check::refuse(basics::either(ragged, 49152 < size), 1, 0)
+}
+
 // Row 3.
 fn pins_fit(k: u8, pins: usize) -> bool
     ensures { λ r. ⌜ r ≡ pinsFit k pins ⌝ }
@@ -137,15 +146,6 @@ fn check_sizes(s: Sizes) -> Check
         256 < s.outputs,
     );
     Check::refuse(many, 6, 0)
-}
-
-// Row 1.
-fn check_length(c: &[u8]) -> Check
-    ensures { λ r. ⌜ refusalOf r ≡ row1 (now (c .entry)) ⌝ }
-{
-    let size = c.len();
-    let ragged = basics::either(size == 0, size % 12 != 0);
-    Check::refuse(basics::either(ragged, 49152 < size), 1, 0)
 }
 
 // Rows 1 to 6, and the sizes of a circuit that they pass.

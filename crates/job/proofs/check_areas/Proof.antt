@@ -5,11 +5,14 @@ use borrow.Author.Needs.{needs}
 use Rattle.job.proofs.check_areas.Statement.{statement}
 use Rattle.job.proofs.check_areas.Tie as tie
 
+abbrev start : tie.After-struct-known4 → tie.Start
+start c = c .before .before .before .before
+
 mul-need-4 : tie.Need-mul-need-4
-mul-need-4 c = let l = c .before .before .before .before .pre in omega (arith, area-limit l)
+mul-need-4 c = omega (arith, area-limit (start c .pre))
 
 add-need-3 : tie.Need-add-need-3
-add-need-3 c = let l = c .before .before .before .before .pre in omega (arith, area-limit l)
+add-need-3 c = omega (arith, area-limit (start c .pre))
 
 returns : tie.Need-returns
 unfolding row13 row14 workBytes

@@ -1,35 +1,40 @@
-use mathlib.Core.Path.{_≡_}
-use mathlib.Core.Option.{none}
 use native.Mathlib.Omega.{arith}
 use Rattle.lists.specs.Scan.{_else_}
 use mathlib.Mathlib.Data.Option.Basic.{orElse-eq-none}
 use Rattle.model.specs.Inputs.{faultCount}
+use Rattle.model.specs.Accepted.{ValidInputs}
 use Rattle.model.specs.Refusals.{row11, row12, inputRows, gradeRefusal}
 use Rattle.model.proofs.Accepted.{validInputs}
-use Rattle.job.specs.Job.{JobOf, JobChecked, Limited}
+use Rattle.job.specs.Job.{JobChecked}
 use Rattle.job.proofs.Laws.{ready-none, stays-broken, joined, joined-ready, regrouped, limited}
 use borrow.Author.Needs.{needs}
 use Rattle.job.proofs.check_grade.Statement.{statement}
 use Rattle.job.proofs.check_grade.Tie as tie
 
-abbrev inputs : tie.After-unless2 → tie.After-check-inputs
-inputs c = c .before .before .before .before
+abbrev planned : tie.After-unless2 → tie.After-unless
+planned c = c .before .before
 
-abbrev start : tie.After-check-inputs → tie.Start
-start c = c .before .before .before .before .before
+abbrev inputs : tie.After-unless → tie.After-check-inputs
+inputs c = c .before .before
 
-checked : (c : tie.After-unless2) → let s = start (inputs c) .args in JobChecked (s .c .now) (s .t .now) ((inputRows (s .c .now) (s .t .now) 0 32768 (s .fs .now) else row11 (s .plan .now)) else row12 (s .k)) (c .unless2 .result)
-checked c = let plan = c .before .before in joined (joined (inputs c .check-inputs .ensures) (plan .before .check-plan .ensures) (plan .unless .ensures)) (c .before .check-k .ensures) (c .unless2 .ensures)
+abbrev start : tie.After-unless2 → tie.Start
+start c = inputs (planned c) .before .before .before .before .before
 
-passed : (c : tie.After-rows2) → let s = start (inputs (c .before .before)) .args in inputRows (s .c .now) (s .t .now) 0 32768 (s .fs .now) ≡ none
-passed c = orElse-eq-none _ _ .0 (orElse-eq-none _ _ .0 (ready-none (checked (c .before .before)) (c .rows2 .given .1)) .0) .0
+checked : (c : tie.After-unless2) → let s = start c .args in
+    JobChecked (s .c .now) (s .t .now) ((inputRows (s .c .now) (s .t .now) 0 32768 (s .fs .now) else row11 (s .plan .now)) else row12 (s .k)) (c .unless2 .result)
+checked c =
+    joined (joined (inputs (planned c) .check-inputs .ensures) (planned c .before .check-plan .ensures) (planned c .unless .ensures))
+    (c .before .check-k .ensures) (c .unless2 .ensures)
+
+valid : (c : tie.After-rows2) → let s = start (c .before .before) .args in ValidInputs (s .c .now) (s .t .now) 0 32768 (s .fs .now)
+valid c = validInputs _ _ _ _ _ (orElse-eq-none _ _ .0 (orElse-eq-none _ _ .0 (ready-none (checked (c .before .before)) (c .rows2 .given .1)) .0) .0)
 
 mul-check-areas : tie.Need-mul-check-areas
 unfolding faultCount
-mul-check-areas c = omega (arith, validInputs _ _ _ _ _ (passed (c .before)) .few)
+mul-check-areas c = omega (arith, valid (c .before) .few)
 
 check-areas-requires : tie.Need-check-areas-requires
-check-areas-requires c κs = limited _ _ _ _ _ (passed (c .before)) (checked (c .before .before .before) .job _ (c .before .rows2 .given .1))
+check-areas-requires c κs = limited (valid (c .before)) (checked (c .before .before .before) .job _ (c .before .rows2 .given .1))
 
 returns : tie.Need-returns
 unfolding gradeRefusal faultCount

@@ -12,6 +12,7 @@ use Rattle.rules.proofs.check_circuit.Tie as tie
 abbrev counted : tie.After-or2 → tie.After-sizes-of
 counted c = c .before .before .before .before .before
 
+-- the rows together
 said : (c : tie.After-or2) → refusalOf (c .or2 .result) ≡ circuitRows (counted c .before .before .args .c .now)
 unfolding circuitRows N
 said c = cc (c .before .before .check-sizes .ensures _ (counted c .sizes-of .ensures))

@@ -22,18 +22,6 @@ used-pins : (c : List ℕ) (n : ℕ) → misnames c n ≡ namesFrom c n 0 (pinCo
 unfolding misnames misnamed namesFrom
 used-pins c n = simp leb·zero
 
-field-requires : tie.Need-field-requires
-field-requires c κs = search needs
-
-field-requires-2 : tie.Need-field-requires-2
-field-requires-2 c κs = search needs
-
-names-from-requires : tie.Need-names-from-requires
-names-from-requires c κs = search needs
-
-names-from-requires-2 : tie.Need-names-from-requires-2
-names-from-requires-2 c κs = search needs
-
 returns : tie.Need-returns
 unfolding strayBytes isGate
 returns c =
@@ -49,13 +37,13 @@ pub check-pins-spec : {M : Type 1} → statement M
 check-pins-spec =
     tie.close
     (tie.spec
-    field-requires
-    field-requires-2
+    (λ c κs. search needs)
+    (λ c κs. search needs)
     (λ c κs. tt)
-    names-from-requires
+    (λ c κs. search needs)
     (λ c κs. tt)
     (λ c κs. tt)
-    names-from-requires-2
+    (λ c κs. search needs)
     (λ c κs. tt)
     (λ c κs. tt)
     (λ c κs. tt)

@@ -18,12 +18,6 @@ read c = c .before .before .before
 abbrev start : tie.After-field → tie.Start
 start c = c .before .before
 
-field-requires : tie.Need-field-requires
-field-requires c κs = search needs
-
-pins-of-requires : tie.Need-pins-of-requires
-pins-of-requires c κs = search needs
-
 returns : tie.Need-returns
 unfolding refusalOf rows2to5 refuse orElse
 returns c = rw (← c .before .before .field .ensures .kind refl, lt-ltb _ _ (c .if1 .taken))
@@ -55,8 +49,8 @@ pub check-record-spec : {M : Type 1} → statement M
 check-record-spec =
     tie.close
     (tie.spec
-    field-requires
-    pins-of-requires
+    (λ c κs. search needs)
+    (λ c κs. search needs)
     returns
     (λ c κs. tt)
     returns-2

@@ -1,11 +1,12 @@
 -- The loop's invariant: none of the pins before pin i + 1 names too high a line.
-use mathlib.Core.Path.{_≡_, refl, sym, _∙_}
+use mathlib.Core.Path.{_≡_, refl, sym}
 use mathlib.Core.Bool.{false}
 use Prim.Native.Nat.{_≤_, _-_}
 use native.Mathlib.Omega.{arith}
 use Rattle.lists.specs.Scan.{anyBelow}
 use Rattle.lists.proofs.Scan.{anyBelow-turn, anyBelow-stop}
 use Rattle.rules.specs.Check.{namesFrom}
+use borrow.Author.Needs.{needs}
 use Rattle.rules.proofs.names_from.Statement.{statement}
 use Rattle.rules.proofs.names_from.Tie as tie
 
@@ -22,21 +23,9 @@ loop-holds : tie.Need-loop-holds Inv-loop μ-loop
 unfolding namesFrom anyBelow
 loop-holds c = (omega arith, refl)
 
-add-pin-of : tie.Need-add-pin-of Inv-loop μ-loop
-add-pin-of c = omega arith
-
-pin-of-requires : tie.Need-pin-of-requires Inv-loop μ-loop
-pin-of-requires c κs = (omega arith, omega arith, omega arith)
-
 returns : tie.Need-returns Inv-loop μ-loop
 unfolding namesFrom
 returns c = sym (anyBelow-stop _ _ _ (cc) (turn (c .before) .loop-test .taken))
-
-add-i : tie.Need-add-i Inv-loop μ-loop
-add-i c = omega arith
-
-loop-less : tie.Need-loop-less Inv-loop μ-loop
-loop-less c = omega arith
 
 loop-again : tie.Need-loop-again Inv-loop μ-loop
 unfolding namesFrom
@@ -52,11 +41,11 @@ names-from-spec =
     Inv-loop
     μ-loop
     loop-holds
-    add-pin-of
-    pin-of-requires
+    (λ c. omega arith)
+    (λ c κs. search needs)
     (λ c κs. tt)
     returns
-    add-i
-    loop-less
+    (λ c. omega arith)
+    (λ c. omega arith)
     loop-again
     returns-2)
