@@ -1,3 +1,4 @@
 -- Laws of lanes.
 pub mod Bits
 pub mod Laws
+pub mod Follows

@@ -124,13 +124,13 @@ impl Lanes {
         }
     }
 
-    // With what y knows added. A conflict stays.
-    pub fn give(self, y: Lanes) -> Lanes
-        ensures { λ r. ⌜ ((t v w : ℕ) → v < 3 → w < 3 → Holds t self v → Holds t y w → Given t r v w) × ((t : ℕ) → Conflict t self → Conflict t r) ⌝ }
+    // With what `more` knows added. A conflict stays.
+    pub fn give(self, more: Lanes) -> Lanes
+        ensures { λ r. ⌜ ((t v w : ℕ) → v < 3 → w < 3 → Holds t self v → Holds t more w → Given t r v w) × ((t : ℕ) → Conflict t self → Conflict t r) ⌝ }
     {
         Lanes {
-            zeros: self.zeros | y.zeros,
-            ones: self.ones | y.ones,
+            zeros: self.zeros | more.zeros,
+            ones: self.ones | more.ones,
         }
     }
 
@@ -172,10 +172,9 @@ pub fn read(words: &[u64], m: usize) -> Lanes
     requires { ⌜ Room (m + 1) (now words) ⌝ }
     ensures { λ r. ⌜ r ≡ lanesAt (now (words .entry)) m ⌝ }
 {
-    Lanes {
-        zeros: words[2 * m],
-        ones: words[2 * m + 1],
-    }
+    let zeros = words[2 * m];
+    let ones = words[2 * m + 1];
+    Lanes { zeros, ones }
 }
 
 pub fn store(words: &mut [u64], m: usize, x: Lanes)

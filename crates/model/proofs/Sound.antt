@@ -199,7 +199,7 @@ module _ (c t : List ℕ) (f : Fault) (a : FaultJob c t f) where
 
       no-opposed-write : (u i : ℕ) → u < L c t → i < F c → opposedWrite c t f u i ≡ true → ⊥
       unfolding opposedWrite
-      no-opposed-write u i h k e = clash _ e (rows-agree _ _ _ (rowAfter-allows u i h (omega arith)) (written-allows u i h k))
+      no-opposed-write u i h k e = clash _ e (rows-agree _ _ _ (rowAfter-allows u _ h (omega arith)) (written-allows u i h k))
 
       stateRow-allows : (u : ℕ) → u < L c t → AllowsRow (stateRow c t f u) (stateAt c t f st u)
       unfolding stateRow

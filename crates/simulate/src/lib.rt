@@ -72,8 +72,9 @@ pub fn simulate(
     match job::check_simulate(circuit, test, faults, work.len(), result.len()) {
         JobCheck::Broken { rule, at } => Outcome::Refused { rule, at },
         JobCheck::Ready(job) => {
+            let size = job.units * job.outputs;
             respond(circuit, job, test, faults, result);
-            Outcome::Done(job.units * job.outputs)
+            Outcome::Done(size)
         }
     }
 }

@@ -52,7 +52,7 @@ read-requires : tie.Need-read-requires Inv-loop μ-loop
 read-requires c κs = omega (arith, at (c .before) .below, start (c .before .before) .pre .3)
 
 lane-requires : tie.Need-lane-requires Inv-loop μ-loop
-lane-requires c κs = start (c .before .before .before) .pre .4
+lane-requires c κs = omega (arith, start (c .before .before .before) .pre .4)
 
 slice-write-area : tie.Need-slice-write-area Inv-loop μ-loop
 slice-write-area c = let in-loop = turn c in omega (arith, in-loop .loop-test .taken, in-loop .before .loop .inv .1, start (in-loop .before) .pre .5)

@@ -39,7 +39,7 @@ read-requires : tie.Need-read-requires Inv-loop μ-loop
 read-requires c κs = omega (arith, c .loop-test .taken, start (c .before) .pre .0)
 
 lane-requires : tie.Need-lane-requires Inv-loop μ-loop
-lane-requires c κs = start (c .before .before) .pre .1
+lane-requires c κs = omega (arith, start (c .before .before) .pre .1)
 
 slice-write-area : tie.Need-slice-write-area Inv-loop μ-loop
 slice-write-area c = let in-loop = turn c in omega (arith, in-loop .loop-test .taken, in-loop .before .loop .inv .1, start (in-loop .before) .pre .2)

@@ -16,8 +16,11 @@ use Rattle.simulate.proofs.simulate.Tie as tie
 abbrev checked : tie.After-job → tie.After-check-simulate
 checked c = c .before .before
 
-abbrev job : tie.After-struct-known → tie.After-job
-job c = c .before .before .before .before .before .before
+abbrev sized : tie.After-struct-known → tie.After-job
+sized c = c .before .before
+
+abbrev ran : tie.After-slice-known3 → tie.After-respond
+ran c = c .before .before
 
 abbrev start : tie.After-check-simulate → tie.Start
 start c = c .before .before .before .before .before .before
@@ -29,16 +32,16 @@ passed c = ready-none (checked c .check-simulate .ensures) (c .job .given .1)
 sizes : (c : tie.After-job) → JobOf (start (checked c) .args .circuit .now) (start (checked c) .args .test .now) (c .job .given .0 .0)
 sizes c = checked c .check-simulate .ensures .job _ (c .job .given .1)
 
+mul-size : tie.Need-mul-size
+mul-size c =
+    let valid = simulateReady _ _ _ _ _ (passed (sized c)) .inputs in
+    omega (arith, response-size (sizes (sized c)), mul-le-mul (valid .test .most) (valid .circuit .outputs))
+
 respond-requires : tie.Need-respond-requires
 respond-requires c κs =
-    let case = c .before .before in
+    let case = sized (c .before) in
     let ready = simulateReady _ _ _ _ _ (passed case) in
     (ready .inputs, sizes case, ready .resultRoom)
-
-mul-t16 : tie.Need-mul-t16
-mul-t16 c =
-    let valid = simulateReady _ _ _ _ _ (passed (job c)) .inputs in
-    omega (arith, response-size (sizes (job c)), mul-le-mul (valid .test .most) (valid .circuit .outputs))
 
 returns : tie.Need-returns
 unfolding answerOf simulateAnswer simulateArea
@@ -49,8 +52,9 @@ returns c =
 returns-2 : tie.Need-returns-2
 unfolding answerOf simulateAnswer simulateArea
 returns-2 c =
-    let none = passed (job c) in
-    (ap done (response-size (sizes (job c))) ∙ sym (answer-done _ _ none), (c .before .before .before .respond .ensures ∙ sym (area-done _ _ _ none), refl))
+    let case = sized (ran c .before .before) in
+    let none = passed case in
+    (ap done (response-size (sizes case)) ∙ sym (answer-done _ _ none), (ran c .respond .ensures ∙ sym (area-done _ _ _ none), refl))
 
 pub simulate-spec : {M : Type 1} → statement M
 simulate-spec =
@@ -59,8 +63,8 @@ simulate-spec =
     (λ c κs. search needs)
     (λ c. search needs)
     (λ c. search needs)
+    mul-size
     respond-requires
-    mul-t16
     returns
     (λ c. search needs)
     returns-2)
