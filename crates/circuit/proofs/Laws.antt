@@ -1,19 +1,20 @@
 -- The tables, one line or pin at a time, and what a valid circuit gives at one line.
 use mathlib.Core.Path.{_≡_, refl, sym, ap, _∙_}
 use Prim.Native.Nat.{ℕ, zero, suc, _+_, _*_, _/_, _%_, _<_, _≤_}
-use mathlib.Core.Bool.{Bool, true, false, cond}
+use mathlib.Core.Bool.{Bool, true, false, cond, true≢false}
 use mathlib.Core.List.{List, [], _∷_, _++_, append-nil}
 use lib.ListN.{length, getD, set, length-set, length-append, List·getD-append}
 use lib.Seq.{getD-at, getD-set-same, getD-set-other}
 use native.Mathlib.Omega.{arith}
 use native.Mathlib.Decide.{decLe}
-use lib.Dec.{leb}
+use lib.Dec.{eqb, leb}
 use borrow.Author.Tests.{le-leb, leb-true}
 use Rattle.lists.specs.Scan.{select, countBelow}
+use Rattle.lists.proofs.Tests.{by-test}
 use Rattle.lists.proofs.Scan.{countBelow-less, countBelow-turn, length-select, select-turn}
-use Rattle.model.specs.Inputs.{N, isFlipFlop, isOutput, isGate, kind, pinCount, pinLine, outputMark, F, O, flipFlops, outputLines}
+use Rattle.model.specs.Inputs.{N, isInput, isFlipFlop, isOutput, isGate, kind, pinCount, pinLine, outputMark, F, O, flipFlops, outputLines}
 use Rattle.model.specs.Accepted.{ValidCircuit}
-use Rattle.circuit.specs.Table.{Listed, byteIsOne, pinRead, pinNumber}
+use Rattle.circuit.specs.Table.{Listed, byteIsOne, pinRead, pinNumber, placeOf}
 
 pub listed-none : (P : ℕ → Bool) (table : List ℕ) → Listed (select P 0) table
 unfolding select
@@ -103,3 +104,38 @@ numbered-more c table e x h before now i l g = elim (decLe (suc i) e) [
   | yes k ↦ getD-set-other table e i x 0 (λ q. omega arith) ∙ before i (omega arith) g
   | no k ↦ (let last : i ≡ e = omega arith in rw last (getD-set-same table e x 0 h ∙ now (rw last at g)))
 ]
+
+-- ---- the places of other lines
+-- the table once line n, of kind k, has been seen to
+module _ (c table table′ : List ℕ) (n k i s : ℕ) (ek : k ≡ kind c n) (room : 4 * n < length table) (now : table′ ≡ cond (leb 2 k) table (set table (4 * n) (cond (eqb k 0) i s))) where
+  changed : isGate c n ≡ false → table′ ≡ set table (4 * n) (cond (eqb k 0) i s)
+  unfolding isGate
+  changed g = now ∙ (let low : leb 2 k ≡ false = ap (leb 2) ek ∙ g in rw low)
+
+  kept : isGate c n ≡ true → table′ ≡ table
+  unfolding isGate
+  kept g = now ∙ (let high : leb 2 k ≡ true = ap (leb 2) ek ∙ g in rw high)
+
+  pub length-place : length table′ ≡ length table
+  length-place = by-test (isGate c n) (λ g. ap length (kept g)) (λ g. ap length (changed g) ∙ length-set table (4 * n) _)
+
+  -- what it holds of a gate stays
+  pub gate-stays : (e : ℕ) → isGate c (e / 4) ≡ true → getD table′ e 0 ≡ getD table e 0
+  gate-stays e h = by-test (isGate c n)
+      (λ g. ap (λ (x : List ℕ). getD x e 0) (kept g))
+      (λ g. ap (λ (x : List ℕ). getD x e 0) (changed g) ∙ getD-set-other table (4 * n) e _ 0
+      (λ q. let same : e / 4 ≡ n = omega arith in true≢false (sym h ∙ ap (isGate c) same ∙ g)))
+
+  pub places-more : i ≡ countBelow (λ m. isInput c m) n → s ≡ countBelow (λ m. isFlipFlop c m) n
+      → ((m : ℕ) → m < n → isGate c m ≡ false → getD table (4 * m) 0 ≡ placeOf c m)
+      → (m : ℕ) → m < n + 1 → isGate c m ≡ false → getD table′ (4 * m) 0 ≡ placeOf c m
+  places-more ei es before m h g = elim (decLe (suc m) n) [
+    | yes l ↦ by-test (isGate c n)
+        (λ gate. ap (λ (x : List ℕ). getD x (4 * m) 0) (kept gate) ∙ before m l g)
+        (λ other. ap (λ (x : List ℕ). getD x (4 * m) 0) (changed other) ∙ getD-set-other table (4 * n) (4 * m) _ 0 (λ q. omega arith) ∙ before m l g)
+    | no l ↦ (let last : m ≡ n = omega arith in
+        rw last (ap (λ (x : List ℕ). getD x (4 * n) 0) (changed (sym (ap (isGate c) last) ∙ g)) ∙ getD-set-same table (4 * n) _ 0 room ∙ here))
+  ]
+    where
+      here : cond (eqb k 0) i s ≡ placeOf c n
+      here = unfold placeOf isInput in rw (ek, ei, es)

@@ -1,11 +1,12 @@
 -- What the sizes and tables of this crate stand for.
 use Prim.Native.Nat.{ℕ, _+_, _*_, _/_, _%_, _<_, _≤_}
 use mathlib.Core.Path.{_≡_}
-use mathlib.Core.Bool.{Bool, true, cond}
+use mathlib.Core.Bool.{Bool, true, false, cond}
 use mathlib.Core.List.{List}
 use lib.ListN.{getD, length}
 use lib.Dec.{eqb, leb}
-use Rattle.model.specs.Inputs.{N, I, F, O, kind, pinCount, outputMark, spareByte, pinLine, isGate, flipFlops, outputLines, Fault}
+use Rattle.lists.specs.Scan.{countBelow}
+use Rattle.model.specs.Inputs.{N, I, F, O, kind, pinCount, outputMark, spareByte, pinLine, isInput, isFlipFlop, isGate, flipFlops, outputLines, Fault}
 use Rattle.circuit.specs.declared.Sizes.{Sizes}
 use Rattle.circuit.specs.declared.Fault as fault
 
@@ -38,10 +39,15 @@ isOr c n = eqb (kind c n / 2) 3
 unfoldable pub pinNumber : List ℕ → ℕ → ℕ → ℕ
 pinNumber c n p = 2 * pinLine c n (pinRead (pinCount c n) p) + cond (isOr c n) 1 0
 
--- four numbers a line, of which those of gates count
+-- where the value of a line that is no gate stands: how many inputs, or else how many flip-flops, are below it
+unfoldable pub placeOf : List ℕ → ℕ → ℕ
+placeOf c n = cond (isInput c n) (countBelow (λ m. isInput c m) n) (countBelow (λ m. isFlipFlop c m) n)
+
+-- Four numbers a line: of a gate those of its pins, of another line its place, which is the first.
 pub record PinTable (c table : List ℕ) : Type 0 where
   pub room : 4 * N c ≤ length table
   pub same : (e : ℕ) → e < 4 * N c → isGate c (e / 4) ≡ true → getD table e 0 ≡ pinNumber c (e / 4) (e % 4 + 1)
+  pub place : (n : ℕ) → n < N c → isGate c n ≡ false → getD table (4 * n) 0 ≡ placeOf c n
 
 -- the sizes of a circuit
 pub record SizesOf (c : List ℕ) (s : Sizes) : Type 0 where

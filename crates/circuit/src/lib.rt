@@ -1,8 +1,9 @@
 // The fields of circuit and fault records, the sizes of a circuit, and the tables of its flip-flops and outputs.
 ghost use mathlib.Core.Bool.{true, cond};
 ghost use mathlib.Core.Path.{_≡_};
-ghost use Prim.Native.Nat.{_+_, _*_, _<_, _≤_};
-ghost use lib.ListN.{length, set};
+ghost use Prim.Native.Nat.{ℕ, _+_, _*_, _/_, _%_, _<_, _≤_};
+ghost use lib.Dec.{eqb, leb};
+ghost use lib.ListN.{length, getD, set};
 ghost use Rattle.lists.specs.Scan.{countBelow, select};
 ghost use Rattle.model.specs.Inputs.{N, pinCount, pinLine, isGate, faultAt};
 ghost use Rattle.model.specs.Accepted.{ValidCircuit};
@@ -143,7 +144,7 @@ fn pin_number(c: &[u8], n: usize, p: usize) -> u16
 // The pins of all gates, as they are read.
 fn list_pins(c: &[u8], lines: usize, table: &mut [u16])
     requires { ⌜ (ValidCircuit (now c)) × (lines ≡ N (now c)) × (4 * lines ≤ length (now table)) ⌝ }
-    ensures { λ _. ⌜ PinTable (now (c .entry)) (now (table .exit)) ⌝ }
+    ensures { λ _. ⌜ ((e : ℕ) → e < 4 * lines → isGate (now (c .entry)) (e / 4) ≡ true → getD (now (table .exit)) e 0 ≡ pinNumber (now (c .entry)) (e / 4) (e % 4 + 1)) ⌝ }
 {
     let mut e: usize = 0;
     while e < 4 * lines {
@@ -152,7 +153,40 @@ fn list_pins(c: &[u8], lines: usize, table: &mut [u16])
     }
 }
 
-// The tables of a circuit: the pins of all gates, the lines of the flip-flops, and those of the outputs.
+// The place of line n, of kind k, with i inputs and s flip-flops below it, where it is no gate.
+fn list_place(table: &mut [u16], n: usize, k: u8, i: usize, s: usize)
+    requires { ⌜ (4 * n < length (now table)) × (i < 65536) × (s < 65536) ⌝ }
+    ensures { λ _. ⌜ now (table .exit) ≡ cond (leb 2 k) (now (table .entry)) (set (now (table .entry)) (4 * n) (cond (eqb k 0) i s)) ⌝ }
+{
+    if 2 <= k {
+        return;
+    }
+    if k == 0 {
+        table[4 * n] = i as u16;
+        return;
+    }
+    table[4 * n] = s as u16;
+}
+
+// The places of all other lines.
+fn list_places(c: &[u8], lines: usize, table: &mut [u16])
+    requires { ⌜ (ValidCircuit (now c)) × (lines ≡ N (now c)) × (4 * lines ≤ length (now table))
+        × ((e : ℕ) → e < 4 * lines → isGate (now c) (e / 4) ≡ true → getD (now table) e 0 ≡ pinNumber (now c) (e / 4) (e % 4 + 1)) ⌝ }
+    ensures { λ _. ⌜ PinTable (now (c .entry)) (now (table .exit)) ⌝ }
+{
+    let mut i: usize = 0;
+    let mut s: usize = 0;
+    let mut n: usize = 0;
+    while n < lines {
+        let k = field(c, n, KIND);
+        list_place(table, n, k, i, s);
+        i += basics::one_if(k == 0);
+        s += basics::one_if(k == 1);
+        n += 1;
+    }
+}
+
+// The tables of a circuit: pins and places of all lines, the lines of the flip-flops, and those of the outputs.
 pub fn list_tables(
     c: &[u8],
     lines: usize,
@@ -164,6 +198,7 @@ pub fn list_tables(
     ensures { λ _. ⌜ Tables (now (c .entry)) (now (pins .exit)) (now (flops .exit)) (now (outs .exit)) ⌝ }
 {
     list_pins(c, lines, pins);
+    list_places(c, lines, pins);
     list_lines(c, lines, KIND, flops);
     list_lines(c, lines, MARK, outs);
 }

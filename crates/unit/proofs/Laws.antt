@@ -10,7 +10,7 @@ use lib.ListN.{length, getD, take, length-map, length-take}
 use lib.Seq.{take-length}
 use Rattle.lists.specs.Scan.{countBelow, tabulate}
 use Rattle.lists.proofs.Scan.{getD-any, map-take, countBelow-less}
-use Rattle.model.specs.Inputs.{N, kind, pinCount, pinLine, isInput, isFlipFlop, I, F, flipFlops, flipFlopLine, Fault}
+use Rattle.model.specs.Inputs.{N, kind, pinCount, pinLine, isInput, isFlipFlop, isGate, I, F, flipFlops, flipFlopLine, Fault}
 use Rattle.model.specs.Accepted.{ValidCircuit}
 use Rattle.model.specs.Values.{X, evenGate, gate, invertIf, inverts}
 use Rattle.model.specs.Simulation.{isStuck, seen, pinSeen, pinsSeen, behind, valuesBelow, lineValues, nextState}
@@ -18,7 +18,7 @@ use Rattle.model.proofs.Runs.{length-valuesBelow, length-flipFlops, flipFlopLin
 use Rattle.lanes.specs.declared.Lanes.{Lanes}
 use Rattle.lanes.specs.Lane.{Shows, Holds, At, stored, Room, Lane}
 use Rattle.lanes.proofs.Laws.{lane-add, lane-none}
-use Rattle.circuit.specs.Table.{Listed}
+use Rattle.circuit.specs.Table.{Listed, PinTable, placeOf}
 use Rattle.unit.specs.Unit.{StuckAt, Stuck}
 
 -- ---- what is seen
@@ -75,14 +75,19 @@ module _ (t z o : ℕ) (c : List ℕ) (f : Fault) (inputs st vs : List ℕ) (n :
   behind-gate k e l h =
       rw (ne-eqb (kind c n) 0 (λ q. (let z : ⊥ = omega arith in z)), ne-eqb (kind c n) 1 (λ q. (let z : ⊥ = omega arith in z)), ← e) h
 
--- an input line, and a flip-flop line, has its place
-pub input-place : (c : List ℕ) (n : ℕ) → n < N c → kind c n ≡ 0 → countBelow (λ m. isInput c m) n < I c
-unfolding I isInput
-input-place c n h e = countBelow-less (λ m. isInput c m) n (N c) h (eq-eqb (kind c n) 0 e)
+-- the place of an input line, and of a flip-flop line, as the table has it
+module _ (c table : List ℕ) (pins : PinTable c table) (n i : ℕ) (h : n < N c) (at : i ≡ getD table (4 * n) 0) where
+  pub input-place : kind c n ≡ 0 → (i ≡ countBelow (λ m. isInput c m) n) × (i < I c)
+  unfolding isGate placeOf isInput I
+  input-place e =
+      let here : i ≡ countBelow (λ m. isInput c m) n = at ∙ pins .place n h (rw e) ∙ rw e in
+      (here, rw here (countBelow-less (λ m. isInput c m) n (N c) h (eq-eqb (kind c n) 0 e)))
 
-pub state-place : (c : List ℕ) (n : ℕ) → n < N c → kind c n ≡ 1 → countBelow (λ m. isFlipFlop c m) n < F c
-unfolding F isFlipFlop
-state-place c n h e = countBelow-less (λ m. isFlipFlop c m) n (N c) h (eq-eqb (kind c n) 1 e)
+  pub state-place : kind c n ≡ 1 → (i ≡ countBelow (λ m. isFlipFlop c m) n) × (i < F c)
+  unfolding isGate placeOf isInput isFlipFlop F
+  state-place e =
+      let here : i ≡ countBelow (λ m. isFlipFlop c m) n = at ∙ pins .place n h (rw e) ∙ rw e in
+      (here, rw here (countBelow-less (λ m. isFlipFlop c m) n (N c) h (eq-eqb (kind c n) 1 e)))
 
 -- ---- the loop over the lines
 module _ (c : List ℕ) (f : Fault) (inputs st : List ℕ) where

@@ -4,8 +4,7 @@ ghost use mathlib.Core.List.{List};
 ghost use mathlib.Core.Bool.{Bool, false, cond};
 ghost use Prim.Native.Nat.{ℕ, _+_, _*_, _/_, _<_, _≤_};
 ghost use lib.ListN.{length, getD};
-ghost use Rattle.lists.specs.Scan.{countBelow};
-ghost use Rattle.model.specs.Inputs.{N, kind, pinLine, isInput, isFlipFlop, I, F, flipFlops, Fault};
+ghost use Rattle.model.specs.Inputs.{N, kind, pinLine, I, F, flipFlops, Fault};
 ghost use Rattle.model.specs.Accepted.{ValidCircuit};
 ghost use Rattle.model.specs.Values.{gate};
 ghost use Rattle.model.specs.Simulation.{isStuck, seen, pinSeen, pinsSeen, behind, lineValues, nextState};
@@ -107,7 +106,7 @@ pub fn any_gate(
     gate_lanes(c, masks, words, n, k, row)
 }
 
-// What stands behind line n, of kind k, with i inputs and s flip-flops below it.
+// What stands behind line n, of kind k: the input or the state bit at its place, or what its gate gives.
 fn behind_lanes(
     c: &[u8],
     pins: &[u16],
@@ -118,17 +117,18 @@ fn behind_lanes(
     n: usize,
     k: u8,
     row: usize,
-    i: usize,
-    s: usize,
 ) -> Lanes
     requires { ⌜ (ValidCircuit (now c)) × (n < N (now c)) × (k ≡ kind (now c) n) × (PinTable (now c) (now pins)) × (MaskRoom (now masks)) × (row < 256) × (Room n (now words))
-        × (i ≡ countBelow (λ m. isInput (now c) m) n) × (s ≡ countBelow (λ m. isFlipFlop (now c) m) n) × (I (now c) ≤ length (now inputs)) × (Room (F (now c)) (now state)) ⌝ }
+        × (I (now c) ≤ length (now inputs)) × (Room (F (now c)) (now state)) ⌝ }
     ensures { λ r. ⌜ ((t : ℕ) (f : Fault) (st vs : List ℕ) → t < 64 → StuckAt t (now (masks .entry)) row f n → Lane t (now (state .entry)) st → length st ≡ F (now (c .entry))
         → Lane t (now (words .entry)) vs → length vs ≡ n → Holds t r (behind (now (c .entry)) f (now (inputs .entry)) st vs n)) ⌝ }
 {
     match k {
-        0 => Lanes::all(inputs[i]),
-        1 => lanes::read(state, s),
+        0 => {
+            let i = basics::wide16(pins[4 * n]);
+            Lanes::all(inputs[i])
+        }
+        1 => lanes::read(state, basics::wide16(pins[4 * n])),
         _ => any_gate(c, pins, masks, words, n, k, row),
     }
 }
@@ -149,16 +149,12 @@ pub fn simulate_unit(
     ensures { λ _. ⌜ ((t : ℕ) (f : Fault) (st : List ℕ) → Stuck t (now (hits .entry)) (now (masks .entry)) f → Lane t (now (state .entry)) st → length st ≡ F (now (c .entry))
         → Lane t (now (words .exit)) (lineValues (now (c .entry)) f (now (inputs .entry)) st)) ⌝ }
 {
-    let mut i: usize = 0;
-    let mut s: usize = 0;
     let mut n: usize = 0;
     while n < lines {
         let k = circuit::field(c, n, circuit::KIND);
         let row = basics::wide(hits[n]);
-        let x = behind_lanes(c, pins, inputs, state, masks, words, n, k, row, i, s);
+        let x = behind_lanes(c, pins, inputs, state, masks, words, n, k, row);
         lanes::store(words, n, seen_at(masks, row, 0, x));
-        i += basics::one_if(k == 0);
-        s += basics::one_if(k == 1);
         n += 1;
     }
 }

@@ -59,10 +59,7 @@ same-length : tie.Need-same-length Inv-loop μ-loop
 same-length c = c .before .loop .inv .1
 
 returns : tie.Need-returns Inv-loop μ-loop
-returns c =
-    let pre = start (c .before) .pre in
-    let inv = c .before .loop .inv in
-    record { room = omega (arith, pre .1, pre .2, inv .1); same = λ e h g. inv .2 e (omega (arith, pre .1, c .loop-test .left)) g }
+returns c = λ e h g. c .before .loop .inv .2 e (omega (arith, c .loop-test .left)) g
 
 pub list-pins-spec : {M : Type 1} → statement M
 list-pins-spec =

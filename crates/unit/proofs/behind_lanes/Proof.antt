@@ -1,8 +1,9 @@
 use mathlib.Core.Path.{_≡_, refl, sym, _∙_}
-use Prim.Native.Nat.{ℕ, _<_}
+use Prim.Native.Nat.{ℕ, _*_, _<_}
 use native.Mathlib.Omega.{arith}
 use lib.ListN.{length}
-use Rattle.model.specs.Inputs.{F}
+use Rattle.lists.specs.Scan.{countBelow}
+use Rattle.model.specs.Inputs.{isInput, isFlipFlop, I, F}
 use Rattle.lanes.proofs.Laws.{lane-read}
 use Rattle.unit.proofs.Laws.{behind-input, behind-state, behind-gate, input-place, state-place}
 use borrow.Author.Needs.{needs}
@@ -13,32 +14,45 @@ use Rattle.unit.proofs.behind_lanes.Tie as tie
 abbrev start : tie.After-shared-slice-known6 → tie.Start
 start c = c .before .before .before .before .before .before
 
--- an input, and a flip-flop, has its place
-input : (c : tie.At-match-keys1) → start (c .before) .args .i < length (start (c .before) .args .inputs .now)
-input c =
-    let pre = start (c .before) .pre in
-    omega (arith, pre .7, pre .9, input-place _ _ (pre .1) (sym (pre .2) ∙ c .match .keys1))
+abbrev input : tie.After-wide16 → tie.At-match-keys1
+input c = c .before .before
 
-bit : (c : tie.At-match-keys2) → start (c .before) .args .s < F (start (c .before) .args .c .now)
-bit c = let pre = start (c .before) .pre in omega (arith, pre .8, state-place _ _ (pre .1) (sym (pre .2) ∙ c .match .keys2))
+abbrev bit : tie.After-wide162 → tie.At-match-keys2
+bit c = c .before .before
+
+-- a line has its numbers in the table
+inside : (c : tie.Start) → 4 * c .args .n < length (c .args .pins .now)
+inside c = omega (arith, c .pre .1, c .pre .3 .room)
+
+input-at : (c : tie.After-wide16) → let s = start (input c .before) in (c .wide16 .result ≡ countBelow (λ m. isInput (s .args .c .now) m) (s .args .n)) × (c .wide16 .result < I (s .args .c .now))
+input-at c = let pre = start (input c .before) .pre in input-place _ _ (pre .3) _ _ (pre .1) (c .wide16 .ensures) (sym (pre .2) ∙ input c .match .keys1)
+
+bit-at : (c : tie.After-wide162) → let s = start (bit c .before) in (c .wide162 .result ≡ countBelow (λ m. isFlipFlop (s .args .c .now) m) (s .args .n)) × (c .wide162 .result < F (s .args .c .now))
+bit-at c = let pre = start (bit c .before) .pre in state-place _ _ (pre .3) _ _ (pre .1) (c .wide162 .ensures) (sym (pre .2) ∙ bit c .match .keys2)
+
+shared-slice-read-wide16 : tie.Need-shared-slice-read-wide16
+shared-slice-read-wide16 c = inside (start (c .before .before))
 
 shared-slice-read-all : tie.Need-shared-slice-read-all
-shared-slice-read-all c = input (c .before)
+shared-slice-read-all c = omega (arith, input-at (c .before) .1, start (input (c .before) .before) .pre .7)
+
+shared-slice-read-wide16-2 : tie.Need-shared-slice-read-wide16-2
+shared-slice-read-wide16-2 c = inside (start (c .before .before))
 
 read-requires : tie.Need-read-requires
-read-requires c κs = omega (arith, start (c .before) .pre .10, bit c)
+read-requires c κs = omega (arith, bit-at c .1, start (bit c .before) .pre .8)
 
 returns : tie.Need-returns
 returns c = λ t f st vs l s ls es h eh.
-    let case = c .before .before in
-    let pre = start (case .before) .pre in
-    behind-input t _ _ _ f _ st vs _ _ (sym (pre .2) ∙ case .match .keys1) (pre .7) (input case) (c .all .ensures t l)
+    let at = c .before .before in
+    let pre = start (input at .before) .pre in
+    behind-input t _ _ _ f _ st vs _ _ (sym (pre .2) ∙ input at .match .keys1) (input-at at .0) (omega (arith, input-at at .1, pre .7)) (c .all .ensures t l)
 
 returns-2 : tie.Need-returns-2
 returns-2 c = λ t f st vs l s ls es h eh.
-    let case = c .before in
-    let pre = start (case .before) .pre in
-    behind-state t _ _ _ f _ st vs _ _ (sym (pre .2) ∙ case .match .keys2) (pre .8) (lane-read t _ st _ _ _ (c .read .ensures) refl ls (omega (arith, es, bit case)))
+    let at = c .before in
+    let pre = start (bit at .before) .pre in
+    behind-state t _ _ _ f _ st vs _ _ (sym (pre .2) ∙ bit at .match .keys2) (bit-at at .0) (lane-read t _ st _ _ _ (c .read .ensures) refl ls (omega (arith, es, bit-at at .1)))
 
 returns-3 : tie.Need-returns-3
 returns-3 c = λ t f st vs l s ls es h eh. behind-gate t _ _ _ f _ st vs _ _ (start (c .before .before) .pre .2) (omega arith) (c .any-gate .ensures t f vs s h (omega arith))
@@ -47,8 +61,16 @@ pub behind-lanes-spec : {M : Type 1} → statement M
 behind-lanes-spec =
     tie.close
     (tie.spec
+    (λ c. search needs)
+    (λ c. omega (arith, inside (start (c .before)), start (c .before) .pre .0 .lines, start (c .before) .pre .1))
+    shared-slice-read-wide16
+    (λ c κs. tt)
     shared-slice-read-all
-    (λ c κs. search needs)
+    (λ c κs. tt)
+    (λ c. search needs)
+    (λ c. omega (arith, inside (start (c .before)), start (c .before) .pre .0 .lines, start (c .before) .pre .1))
+    shared-slice-read-wide16-2
+    (λ c κs. tt)
     read-requires
     (λ c κs. search needs)
     returns

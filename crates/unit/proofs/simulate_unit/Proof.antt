@@ -1,13 +1,10 @@
--- The words hold, in each lane, the values of the lines below n; i and s count the inputs and the flip-flops below n.
-use mathlib.Core.Path.{_≡_, refl, ap, _∙_}
+-- The words hold, in each lane, the values of the lines below n.
+use mathlib.Core.Path.{_≡_, refl, _∙_}
 use mathlib.Core.List.{List}
 use Prim.Native.Nat.{ℕ, _+_, _-_, _≤_}
 use native.Mathlib.Omega.{arith}
 use lib.ListN.{length}
-use Rattle.lists.specs.Scan.{countBelow}
-use lib.Dec.{eqb}
-use Rattle.circuit.proofs.Laws.{counted-turn}
-use Rattle.model.specs.Inputs.{isInput, isFlipFlop, F, Fault}
+use Rattle.model.specs.Inputs.{F, Fault}
 use Rattle.model.specs.Simulation.{valuesBelow}
 use Rattle.model.proofs.Runs.{length-valuesBelow}
 use Rattle.lanes.specs.Lane.{Room, Lane}
@@ -18,12 +15,12 @@ use Rattle.unit.proofs.simulate_unit.Statement.{statement}
 use Rattle.unit.proofs.simulate_unit.Tie as tie
 
 abbrev Inv-loop : tie.InvT-loop
-Inv-loop c pins lines inputs state hits masks words₀ i₀ s₀ n₀ words i s n =
-    (n ≤ lines) × (i ≤ n) × (s ≤ n) × (i ≡ countBelow (λ m. isInput c m) n) × (s ≡ countBelow (λ m. isFlipFlop c m) n) × (length words ≡ length words₀)
+Inv-loop c pins lines inputs state hits masks words₀ n₀ words n =
+    (n ≤ lines) × (length words ≡ length words₀)
     × ((t : ℕ) (f : Fault) (st : List ℕ) → Stuck t hits masks f → Lane t state st → length st ≡ F c → Lane t words (valuesBelow c f inputs st n))
 
 abbrev μ-loop : tie.MeasureT-loop
-μ-loop c pins lines inputs state hits masks words₀ i₀ s₀ n₀ words i s n = lines - n
+μ-loop c pins lines inputs state hits masks words₀ n₀ words n = lines - n
 
 -- places
 abbrev Loop : Type 0
@@ -38,18 +35,14 @@ turn c = c .before .before .before
 abbrev rowed : tie.After-seen-at Inv-loop μ-loop → tie.After-wide Inv-loop μ-loop
 rowed c = c .before .before .before .before
 
-abbrev put : tie.After-one-if2 Inv-loop μ-loop → tie.After-store Inv-loop μ-loop
-put c = c .before .before .before .before
+abbrev put : tie.After-slice-known2 Inv-loop μ-loop → tie.After-store Inv-loop μ-loop
+put c = c .before .before
 
 room : (c : tie.In-loop Inv-loop μ-loop) → Room (c .before .loop .n + 1) (c .before .loop .words)
-room c = omega (arith, c .loop-test .taken, start (c .before) .pre .5, c .before .loop .inv .5)
-
-few : (l : Loop) → start l .args .lines ≤ 4096
-few l = omega (arith, start l .pre .0 .lines, start l .pre .2)
+room c = omega (arith, c .loop-test .taken, start (c .before) .pre .5, c .before .loop .inv .1)
 
 loop-holds : tie.Need-loop-holds Inv-loop μ-loop
-unfolding countBelow
-loop-holds c = (omega arith, omega arith, omega arith, refl, refl, refl, λ t f st s l e. values-none _ f _ st t _)
+loop-holds c = (omega arith, refl, λ t f st s l e. values-none _ f _ st t _)
 
 field-requires : tie.Need-field-requires Inv-loop μ-loop
 field-requires c κs = let pre = start (c .before) .pre in (omega (arith, c .loop-test .taken, pre .0 .size, pre .2), omega arith)
@@ -60,8 +53,7 @@ shared-slice-read-wide c = let in-loop = c .before .before in omega (arith, in-l
 behind-lanes-requires : tie.Need-behind-lanes-requires Inv-loop μ-loop
 behind-lanes-requires c κs =
     let in-loop = turn (c .before) in
-    let pre = start (in-loop .before) .pre in
-    let inv = in-loop .before .loop .inv in (
+    let pre = start (in-loop .before) .pre in (
       pre .0,
       omega (arith, in-loop .loop-test .taken, pre .2),
       c .before .before .before .field .ensures .kind refl,
@@ -69,8 +61,6 @@ behind-lanes-requires c κs =
       pre .4,
       omega (arith, c .before .wide .ensures .1),
       omega (arith, room in-loop),
-      inv .3,
-      inv .4,
       pre .6,
       pre .7,
     )
@@ -81,49 +71,30 @@ seen-at-requires c κs = let row = c .before .before .before in (start (turn row
 store-requires : tie.Need-store-requires Inv-loop μ-loop
 store-requires c κs = room (turn (rowed c))
 
-add-i : tie.Need-add-i Inv-loop μ-loop
-add-i c =
-    let in-loop = turn (rowed (c .before .before .before .before)) in
-    omega (arith, few (in-loop .before), in-loop .loop-test .taken, in-loop .before .loop .inv .1, c .one-if .ensures .1)
-
-add-s : tie.Need-add-s Inv-loop μ-loop
-add-s c =
-    let in-loop = turn (rowed (put c .before)) in
-    omega (arith, few (in-loop .before), in-loop .loop-test .taken, in-loop .before .loop .inv .2, c .one-if2 .ensures .1)
-
 add-n : tie.Need-add-n Inv-loop μ-loop
-add-n c = let in-loop = turn (rowed (put c .before)) in omega (arith, few (in-loop .before), in-loop .loop-test .taken)
-
-loop-less : tie.Need-loop-less Inv-loop μ-loop
-loop-less c = omega (arith, turn (rowed (put c .before)) .loop-test .taken)
+add-n c =
+    let in-loop = turn (rowed (put c .before)) in
+    let pre = start (in-loop .before) .pre in
+    omega (arith, pre .0 .lines, pre .2, in-loop .loop-test .taken)
 
 loop-again : tie.Need-loop-again Inv-loop μ-loop
-unfolding isInput isFlipFlop
 loop-again c =
     let store = put c in
     let row = rowed (store .before) in
     let in-loop = turn row in
     let loop = in-loop .before .loop in
-    let below = in-loop .loop-test .taken in
-    let kind = row .before .before .field .ensures .kind refl in (
+    let below = in-loop .loop-test .taken in (
       omega (arith, below),
-      omega (arith, c .before .one-if .ensures .1, loop .inv .1),
-      omega (arith, c .one-if2 .ensures .1, loop .inv .2),
-      counted-turn (λ m. isInput _ m) _ _ _ _ (loop .inv .3) (c .before .one-if .ensures .0) (ap (λ k. eqb k 0) kind),
-      counted-turn (λ m. isFlipFlop _ m) _ _ _ _ (loop .inv .4) (c .one-if2 .ensures .0) (ap (λ k. eqb k 1) kind),
-      length-stored _ _ _ _ (store .store .ensures) ∙ loop .inv .5,
+      length-stored _ _ _ _ (store .store .ensures) ∙ loop .inv .1,
       λ t f st s l e.
-          let lane = loop .inv .6 t f st s l e in
+          let lane = loop .inv .2 t f st s l e in
           let at = stuck-row t _ _ f _ _ s (omega (arith, start (in-loop .before) .pre .3, below)) (row .wide .ensures .0) in
           values-more _ f _ st t _ _ _ _ (store .store .ensures) (room in-loop) lane
           (store .before .seen-at .ensures t f _ _ at (store .before .before .before .behind-lanes .ensures t f st _ (s .lane) at l e lane (length-valuesBelow _ f _ st _))),
     )
 
-same-length : tie.Need-same-length Inv-loop μ-loop
-same-length c = c .before .loop .inv .5
-
 returns : tie.Need-returns Inv-loop μ-loop
-returns c = λ t f st s l e. values-all _ f _ st t _ _ (omega (arith, start (c .before) .pre .2)) (c .before .loop .inv .6 t f st s l e)
+returns c = λ t f st s l e. values-all _ f _ st t _ _ (omega (arith, start (c .before) .pre .2)) (c .before .loop .inv .2 t f st s l e)
 
 pub simulate-unit-spec : {M : Type 1} → statement M
 simulate-unit-spec =
@@ -138,12 +109,8 @@ simulate-unit-spec =
     behind-lanes-requires
     seen-at-requires
     store-requires
-    (λ c κs. tt)
-    add-i
-    (λ c κs. tt)
-    add-s
     add-n
-    loop-less
+    (λ c. omega (arith, turn (rowed (put c .before)) .loop-test .taken))
     loop-again
-    same-length
+    (λ c. c .before .loop .inv .1)
     returns)
