@@ -54,7 +54,7 @@ read-requires : tie.Need-read-requires Inv-loop μ-loop
 read-requires c κs = omega (arith, at (c .before) .below, start (c .before .before) .pre .3)
 
 shared-slice-read-opposing : tie.Need-shared-slice-read-opposing Inv-loop μ-loop
-shared-slice-read-opposing c = inside (turn (c .before))
+shared-slice-read-opposing c = omega (arith, inside (turn (c .before)))
 
 add-o : tie.Need-add-o Inv-loop μ-loop
 add-o c = omega (arith, turn (c .before .before) .loop-test .taken)
