@@ -13,7 +13,7 @@ use Rattle.lists.specs.Scan.{anyBelow, gather}
 use Rattle.lists.proofs.Scan.{All, all-at, select-all, length-select, length-gather, gather-turn, getD-any, anyBelow-more, countBelow-bound}
 use Rattle.lists.proofs.Tests.{and-left, by-test}
 use Rattle.model.specs.Inputs.{N, I, F, O, L, isInput, isOutput, flipFlops, outputLines, inputsAt, Fault}
-use Rattle.model.specs.Accepted.{ValidCircuit, ValidTest, ThreeValued}
+use Rattle.model.specs.Accepted.{ValidCircuit, ValidTest, ValidInputs, ThreeValued}
 use Rattle.model.specs.Values.{X, opposes, someOppose}
 use Rattle.model.specs.Simulation.{shown, powerUp, lineValues, outputs, nextState, stateAt, valuesAt, outputsAt}
 use Rattle.model.proofs.Runs.{length-nextState}
@@ -22,7 +22,7 @@ use Rattle.lanes.specs.declared.Lanes.{Lanes}
 use Rattle.lanes.specs.Lane.{bit, Holds, allX, lanesAt, stored, Room, Lane}
 use Rattle.lanes.proofs.Bits.{bit-and, bit-or, bit-none}
 use Rattle.lanes.proofs.Laws.{lane-read, lane-add, lane-none, shows-x}
-use Rattle.circuit.specs.Table.{Listed, PinTable}
+use Rattle.circuit.specs.Table.{Listed, PinTable, Tables}
 use Rattle.job.specs.Job.{JobOf}
 use Rattle.job.specs.declared.Job.{Job}
 use Rattle.unit.specs.Unit.{Stuck, MaskRoom}
@@ -51,6 +51,20 @@ row-long free o u units h l =
 
 test-fits : (c t : List ℕ) (j : Job) (u : ℕ) → JobOf c t j → ValidTest c t → u < j .units → j .inputs * u + j .inputs ≤ length t
 test-fits c t j u o v h = rw (v .whole, ← (o .units), ← (o .inputs)) (record-fits (j .inputs) u (j .units) h)
+
+-- an accepted job, with its tables, in arrays of the sizes that every call makes
+pub runnable : {c t fs pins flops outs hits masks words state : List ℕ} {least most : ℕ} {j : Job} → ValidInputs c t least most fs → JobOf c t j → Tables c pins flops outs
+    → 4096 ≤ length hits → MaskRoom masks → Room 4096 words → Room 256 state → Runnable c t j pins flops outs hits masks words state
+runnable valid of tables hits masks words state = record {
+  circuit = valid .circuit;
+  test = valid .test;
+  sizes = of;
+  tables = tables;
+  hitRoom = omega (arith, valid .circuit .lines);
+  maskRoom = masks;
+  lineRoom = omega (arith, valid .circuit .lines);
+  stateRoom = omega (arith, valid .circuit .flipFlops);
+}
 
 -- what the two steps of a unit ask for, once words and states have been written over by w and s words
 module _ (c t : List ℕ) (j : Job) (pins flops outs hits masks words₀ state₀ : List ℕ) (run : Runnable c t j pins flops outs hits masks words₀ state₀)

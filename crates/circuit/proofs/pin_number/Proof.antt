@@ -22,22 +22,26 @@ read-of c k count q e h counted r =
     let low = pin-read-lower _ (c .pre .0) _ (c .args .p) (c .pre .1) gate (c .pre .2) in
     rw (r, counted) record { few = has .0; most = omega (arith, has .1, c .pre .0 .few _ (c .pre .1)); low = low }
 
+-- places
+abbrev start : tie.After-pin-read → tie.Start
+start c = c .before .before .before .before .before
+
 -- the pin that was read
-pin-read-of : (c : tie.After-pin-read) → ReadOf (c .before .before .before .before .before) (c .pin-read .result)
+pin-read-of : (c : tie.After-pin-read) → ReadOf (start c) (c .pin-read .result)
 pin-read-of c =
-    read-of (c .before .before .before .before .before) _ _ _ (c .before .before .before .field .ensures .kind refl) (omega (arith, c .before .before .if1 .left))
+    read-of (start c) _ _ _ (c .before .before .before .field .ensures .kind refl) (omega (arith, c .before .before .if1 .left))
     (c .before .pins-of .ensures .0) (c .pin-read .ensures)
 
 returns : tie.Need-returns
 returns c = λ g. absurd (let z : ⊥ = omega (arith, gate-kind _ _ g, c .before .field .ensures .kind refl) in z)
 
 pin-of-requires : tie.Need-pin-of-requires
-pin-of-requires c κs = let r = pin-read-of c in let pre = c .before .before .before .before .before .pre in (omega (arith, pre .0 .size, pre .1), r .few, r .most)
+pin-of-requires c κs = let r = pin-read-of c in let pre = start c .pre in (omega (arith, pre .0 .size, pre .1), r .few, r .most)
 
 cast-result : tie.Need-cast-result
 cast-result c =
     let read = c .before .before in
-    let pre = read .before .before .before .before .before .pre in
+    let pre = start read .pre in
     omega (arith, c .before .pin-of .ensures .0, c .one-if .ensures .1, pre .0 .lines, pre .1, pin-read-of read .low)
 
 returns-2 : tie.Need-returns-2

@@ -1,10 +1,11 @@
 -- The counts so far are those of the lines below n.
-use mathlib.Core.Path.{_≡_, refl, _∙_}
+use mathlib.Core.Path.{_≡_, refl, ap, _∙_}
 use Prim.Native.Nat.{_≤_, _-_}
 use native.Mathlib.Omega.{arith}
 use Rattle.lists.specs.Scan.{countBelow}
 use Rattle.model.specs.Inputs.{isInput, isFlipFlop, isOutput, kind, I, F, O}
-use Rattle.lists.proofs.Scan.{countBelow-turn}
+use lib.Dec.{eqb}
+use Rattle.circuit.proofs.Laws.{counted-turn}
 use Rattle.circuit.proofs.sizes_of.Statement.{statement}
 use Rattle.circuit.proofs.sizes_of.Tie as tie
 
@@ -15,6 +16,10 @@ Inv-loop c lines inputs₀ flops₀ outputs₀ n₀ inputs flops outputs n =
 
 abbrev μ-loop : tie.MeasureT-loop
 μ-loop c lines inputs₀ flops₀ outputs₀ n₀ inputs flops outputs n = lines - n
+
+-- places
+abbrev turn : tie.After-one-if3 Inv-loop μ-loop → tie.After-field Inv-loop μ-loop
+turn c = c .before .before .before .before
 
 loop-holds : tie.Need-loop-holds Inv-loop μ-loop
 unfolding countBelow
@@ -29,16 +34,15 @@ field-requires-2 c κs = (omega arith, omega arith)
 loop-again : tie.Need-loop-again Inv-loop μ-loop
 unfolding isInput isFlipFlop isOutput
 loop-again c =
-    let turn = c .before .before .before .before .before in
-    let inv = turn .before .loop .inv in
-    let kind = c .before .before .before .before .field .ensures .kind refl in (
+    let inv = turn c .before .before .loop .inv in
+    let kind = turn c .field .ensures .kind refl in (
       omega arith,
       omega arith,
       omega arith,
       omega arith,
-      rw (countBelow-turn, c .before .before .before .one-if .ensures .0, kind, inv .4),
-      rw (countBelow-turn, c .before .before .one-if2 .ensures .0, kind, inv .5),
-      rw (countBelow-turn, c .one-if3 .ensures .0, c .before .field2 .ensures .mark refl, inv .6),
+      counted-turn (λ m. isInput _ m) _ _ _ _ (inv .4) (c .before .before .before .one-if .ensures .0) (ap (λ k. eqb k 0) kind),
+      counted-turn (λ m. isFlipFlop _ m) _ _ _ _ (inv .5) (c .before .before .one-if2 .ensures .0) (ap (λ k. eqb k 1) kind),
+      counted-turn (λ m. isOutput _ m) _ _ _ _ (inv .6) (c .one-if3 .ensures .0) (ap (λ k. eqb k 1) (c .before .field2 .ensures .mark refl)),
     )
 
 returns : tie.Need-returns Inv-loop μ-loop

@@ -4,7 +4,7 @@ use Rattle.model.specs.Simulation.{powerUp}
 use Rattle.lanes.proofs.Bits.{bit-all}
 use Rattle.faults.specs.Given.{laneFault}
 use Rattle.faults.proofs.Laws.{blank-zeros}
-use Rattle.run.proofs.Laws.{length-powerUp}
+use Rattle.run.proofs.Laws.{runnable, length-powerUp}
 use Rattle.exported.proofs.Laws.{whole-batch, given-lane, opposed-plain}
 use borrow.Author.Needs.{needs}
 use Rattle.exported.proofs.detect.Statement.{statement}
@@ -37,17 +37,8 @@ opposing-ever-requires c κs =
     let give = given (power .before .before) in
     let tables = tabled (give .before) in
     let pre = start (tables .before) .pre in
-    let valid = pre .0 in (
-      record {
-        circuit = valid .circuit;
-        test = valid .test;
-        sizes = pre .1;
-        tables = tables .list-tables .ensures;
-        hitRoom = omega (arith, valid .circuit .lines, power .before .before .before .before .hits2 .given);
-        maskRoom = omega (arith, power .before .before .before .masks2 .given);
-        lineRoom = omega (arith, valid .circuit .lines);
-        stateRoom = omega (arith, valid .circuit .flipFlops, power .state2 .given);
-      },
+    let masks = power .before .before .before in (
+      runnable (pre .0) (pre .1) (tables .list-tables .ensures) (omega (arith, masks .before .hits2 .given)) (omega (arith, masks .masks2 .given)) (omega arith) (omega (arith, power .state2 .given)),
       omega (arith, pre .1 .units),
       rw (pre .1 .units) (pre .2),
     )

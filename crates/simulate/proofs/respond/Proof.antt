@@ -2,7 +2,7 @@ use native.Mathlib.Omega.{arith}
 use native.Mathlib.Nat.{add-zero}
 use Rattle.model.specs.Simulation.{powerUp}
 use Rattle.model.proofs.ThreeValued.{powerUp-three}
-use Rattle.run.proofs.Laws.{length-powerUp}
+use Rattle.run.proofs.Laws.{runnable, length-powerUp}
 use Rattle.faults.proofs.Laws.{blank-zeros}
 use Rattle.simulate.proofs.Laws.{rows-plain}
 use borrow.Author.Needs.{needs}
@@ -19,8 +19,8 @@ tabled c = c .before .before .before .before .before
 abbrev given : tie.After-state → tie.After-give-only
 given c = c .before .before .before
 
-abbrev powered : tie.After-write-rows-arg → tie.After-power-up
-powered c = c .before .before .before .before .before .before .before .before .before
+abbrev powered : tie.After-write-rows-arg → tie.After-state2
+powered c = c .before .before .before .before .before .before .before .before
 
 abbrev ran : tie.After-slice-known2 → tie.After-write-rows
 ran c = c .before .before .before .before
@@ -44,20 +44,11 @@ give-only-requires c κs =
 write-rows-requires : tie.Need-write-rows-requires
 write-rows-requires c κs =
     let power = powered c in
-    let give = given (power .before) in
+    let give = given (power .before .before) in
     let tables = tabled (give .before) in
     let pre = start (tables .before) .pre in
-    let valid = pre .0 in (
-      record {
-        circuit = valid .circuit;
-        test = valid .test;
-        sizes = pre .1;
-        tables = tables .list-tables .ensures;
-        hitRoom = omega (arith, valid .circuit .lines, power .before .before .before .hits2 .given);
-        maskRoom = omega (arith, power .before .before .masks2 .given);
-        lineRoom = omega (arith, valid .circuit .lines);
-        stateRoom = omega (arith, valid .circuit .flipFlops, c .before .before .before .before .before .before .before .before .state2 .given);
-      },
+    let masks = power .before .before .before in (
+      runnable (pre .0) (pre .1) (tables .list-tables .ensures) (omega (arith, masks .before .hits2 .given)) (omega (arith, masks .masks2 .given)) (omega arith) (omega (arith, power .state2 .given)),
       omega arith,
       omega arith,
       rw add-zero (pre .2),
@@ -66,11 +57,11 @@ write-rows-requires c κs =
 returns : tie.Need-returns
 returns c =
     let power = powered (ran c .before) in
-    let give = given (power .before) in
+    let give = given (power .before .before) in
     let begin = start (tabled (give .before) .before) in
     let cs = begin .args .c .now in
     rw (← (rows-plain cs (begin .args .t .now) (begin .args .fs .now)))
-    (ran c .write-rows .ensures _ (powerUp cs) (give .give-only .ensures) (power .power-up .ensures 0) (length-powerUp cs) (powerUp-three cs))
+    (ran c .write-rows .ensures _ (powerUp cs) (give .give-only .ensures) (power .before .power-up .ensures 0) (length-powerUp cs) (powerUp-three cs))
 
 pub respond-spec : {M : Type 1} → statement M
 respond-spec =
