@@ -5,7 +5,7 @@ use mathlib.Core.List.{List, [], _∷_}
 use Prim.Native.Nat.{ℕ, zero, suc, _+_, _<_, _≤_}
 use native.Mathlib.Omega.{arith}
 use lib.Dec.{leb}
-use borrow.Author.Tests.{leb-false}
+use borrow.Author.Tests.{leb-false, le-leb}
 use lib.ListN.{getD, length, set, length-set}
 use lib.Seq.{getD-set-same, getD-set-other}
 use Rattle.lists.proofs.Tests.{by-test, by-eq, or-left-false, or-right-false}
@@ -16,11 +16,11 @@ use Rattle.lanes.specs.Lane.{bit, is0, is1, Shows, Holds, Conflict, lane
 use Rattle.lanes.proofs.Laws.{holds-as, stored-same, stored-other, lane-at}
 
 -- ---- conflicts in a row of values
-clear-at : (vs : List ℕ) (m : ℕ) → hasConflict vs ≡ false → m < length vs → getD vs m X < 3
+pub clear-at : (vs : List ℕ) (m : ℕ) → hasConflict vs ≡ false → getD vs m X < 3
 unfolding hasConflict
-clear-at [] m e h = absurd (let z : ⊥ = omega arith in z)
-clear-at (v ∷ vs) zero e h = leb-false 3 v (or-left-false _ _ e)
-clear-at (v ∷ vs) (suc m) e h = clear-at vs m (or-right-false (leb 3 v) _ e) (omega arith)
+clear-at [] m e = omega arith
+clear-at (v ∷ vs) zero e = leb-false 3 v (or-left-false _ _ e)
+clear-at (v ∷ vs) (suc m) e = clear-at vs m (or-right-false (leb 3 v) _ e)
 
 -- a value that is set: a conflict, or none where there was none
 set-conflict : (vs : List ℕ) (m a : ℕ) → m < length vs → leb 3 a ≡ true → hasConflict (set vs m a) ≡ true
@@ -79,7 +79,7 @@ give-conflict (v ∷ vs) (suc m) w h e = by-test (leb 3 v)
     (λ g. let rest : hasConflict vs ≡ true = (rw g at e) in rw (give-conflict vs m w (omega arith) rest) (or-true (leb 3 v)))
 
 -- ---- lanes
-conflict-as : (t : ℕ) (x y : Lanes) → x ≡ y → Conflict t y → Conflict t x
+pub conflict-as : (t : ℕ) (x y : Lanes) → x ≡ y → Conflict t y → Conflict t x
 conflict-as t x y e h = rw e h
 
 -- no value is held where there is a conflict
@@ -128,7 +128,49 @@ module _ (t : ℕ) (ws vs : List ℕ) (old : Follows t ws vs) where
         met-now g = unfold giveLine in set-conflict vs m _ inside (give-opposes _ _ g)
 
         none-now : hasConflict vs ≡ false → opposes (getD vs m X) w ≡ false → hasConflict (giveLine vs m w) ≡ false
-        none-now none g = unfold giveLine in set-clear vs m _ none (give-clear _ _ (clear-at vs m none inside) (given none .0) g)
+        none-now none g = unfold giveLine in set-clear vs m _ none (give-clear _ _ (clear-at vs m none) (given none .0) g)
 
         wide : {k : ℕ} → k < length vs → k < length (giveLine vs m w)
         wide h = unfold giveLine in (let size : length (set vs m (give (getD vs m X) w)) ≡ length vs = length-set vs m _ in omega arith)
+
+-- ---- X is given: nothing changes
+give-X : (v : ℕ) → leb 3 (give v X) ≡ leb 3 v
+unfolding give
+give-X zero = refl
+give-X (suc zero) = refl
+give-X (suc (suc zero)) = refl
+give-X (suc (suc (suc v))) = sym (le-leb 3 (suc (suc (suc v))) (omega arith))
+
+conflict-X : (vs : List ℕ) (m : ℕ) → hasConflict (set vs m (give (getD vs m X) X)) ≡ hasConflict vs
+unfolding hasConflict
+conflict-X [] m = refl
+conflict-X (v ∷ vs) zero = rw (give-X v)
+conflict-X (v ∷ vs) (suc m) = rw (conflict-X vs m)
+
+same-X : (v : ℕ) → leb 3 v ≡ false → give v X ≡ v
+unfolding give
+same-X zero e = refl
+same-X (suc zero) e = refl
+same-X (suc (suc zero)) e = refl
+same-X (suc (suc (suc v))) e = absurd (true≢false (sym (le-leb 3 (suc (suc (suc v))) (omega arith)) ∙ e))
+
+row-X : (vs : List ℕ) (m : ℕ) → hasConflict vs ≡ false → set vs m (give (getD vs m X) X) ≡ vs
+unfolding hasConflict
+row-X [] m e = refl
+row-X (v ∷ vs) zero e = rw (same-X v (or-left-false (leb 3 v) _ e))
+row-X (v ∷ vs) (suc m) e = rw (row-X vs m (or-right-false (leb 3 v) _ e))
+
+pub follows-X : (t : ℕ) (ws vs : List ℕ) (m : ℕ) → Follows t ws (giveLine vs m X) → Follows t ws vs
+unfolding giveLine
+follows-X t ws vs m h = record {
+  holds = λ e. rw (row-X vs m e) at (h .holds (conflict-X vs m ∙ e));
+  conflict = λ e.
+      let at = h .conflict (conflict-X vs m ∙ e) in
+      let size : length (set vs m (give (getD vs m X) X)) ≡ length vs = length-set vs m _ in
+      (at .0, omega (arith, at .1), at .2);
+}
+
+-- a conflict that was met stays met
+pub conflict-kept : (vs : List ℕ) (m w : ℕ) → m < length vs → hasConflict (giveLine vs m w) ≡ false → hasConflict vs ≡ false
+unfolding giveLine
+conflict-kept vs m w h e = by-test (hasConflict vs) (λ met. absurd (true≢false (sym (give-conflict vs m w h met) ∙ e))) (λ none. none)

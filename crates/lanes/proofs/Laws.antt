@@ -6,12 +6,12 @@ use Prim.Native.Nat.{ℕ, zero, suc, _/_, _+_, _*_, _%_, _^_, _<_, _≤_}
 use native.Mathlib.Omega.{arith}
 use native.Mathlib.Decide.{decLe}
 use lib.Dec.{eqb}
-use borrow.Author.Tests.{eqb-true, eq-eqb}
+use borrow.Author.Tests.{eqb-true, eq-eqb, lt-leb}
 use lib.ListN.{getD, length, set, length-set, length-append, List·getD-append}
 use lib.Seq.{getD-at, getD-set-same, getD-set-other}
 use lib.Bits.{bitAnd, bitOr, bitXor}
 use Rattle.lists.proofs.Tests.{by-test}
-use Rattle.model.specs.Values.{invert, andPair, xorPair, andOf, orOf, invertAll, xorOf, evenGate, invertIf, opposes, give}
+use Rattle.model.specs.Values.{isSpecified, invert, andPair, xorPair, andOf, orOf, invertAll, xorOf, evenGate, invertIf, opposes, give}
 use Rattle.lanes.specs.declared.Lanes.{Lanes}
 use Rattle.lanes.specs.Lane.{bit, is0, is1, Shows, Holds, Conflict, lanesAt, At, stored, Room, turnedIf, Lane, Given}
 use Rattle.lanes.proofs.Bits.{bit-and, bit-or, bit-xor, bit-none, bit-all, bit-one, xorB, other-odd, other-even}
@@ -114,6 +114,33 @@ unfolding masked
 shows-stuck t z o v a b hit s l m h = record {
   zero? = rw (bit-or t (bitXor (bitOr z b) b) a, bit-xor t (bitOr z b) b, bit-or t z b, m .zero?, m .one?, h .zero?) (is-stuck hit s v l .0);
   one? = rw (bit-or t (bitXor (bitOr o a) a) b, bit-xor t (bitOr o a) a, bit-or t o a, m .zero?, m .one?, h .one?) (is-stuck hit s v l .1);
+}
+
+-- a place that is X where another is known
+cleared : (x known : Bool) → Bool
+cleared x known = xorB (x || known) known
+
+cleared-where : (x : Bool) → (cleared x true ≡ false) × (cleared x false ≡ x)
+unfolding cleared xorB
+cleared-where true = (refl, refl)
+cleared-where false = (refl, refl)
+
+known : (a : ℕ) → (is0 a || is1 a) ≡ isSpecified a
+unfolding is0 is1
+known zero = refl
+known (suc zero) = refl
+known (suc (suc a)) = sym (lt-leb (suc (suc a)) 1 (omega arith))
+
+is-unless : (v : ℕ) (k : Bool) → (cleared (is0 v) k ≡ is0 (cond k 2 v)) × (cleared (is1 v) k ≡ is1 (cond k 2 v))
+unfolding is0 is1
+is-unless v true = (cleared-where (is0 v) .0, cleared-where (is1 v) .0)
+is-unless v false = (cleared-where (is0 v) .1, cleared-where (is1 v) .1)
+
+pub shows-unless : (t z o v p q a : ℕ) → Shows t z o v → Shows t p q a → Shows t (bitXor (bitOr z (bitOr p q)) (bitOr p q)) (bitXor (bitOr o (bitOr p q)) (bitOr p q)) (cond (isSpecified a) 2 v)
+unfolding cleared
+shows-unless t z o v p q a h g = record {
+  zero? = rw (bit-xor t (bitOr z (bitOr p q)) (bitOr p q), bit-or t z (bitOr p q), bit-or t p q, h .zero?, g .zero?, g .one?, known a) (is-unless v (isSpecified a) .0);
+  one? = rw (bit-xor t (bitOr o (bitOr p q)) (bitOr p q), bit-or t o (bitOr p q), bit-or t p q, h .one?, g .zero?, g .one?, known a) (is-unless v (isSpecified a) .1);
 }
 
 -- ---- lists of words

@@ -5,7 +5,7 @@ ghost use mathlib.Core.List.{List, _∷_};
 ghost use mathlib.Core.Path.{_≡_};
 ghost use Prim.Native.Nat.{ℕ, _+_, _*_, _<_, _≤_, _/_, _%_};
 ghost use lib.Dec.{eqb};
-ghost use Rattle.model.specs.Values.{X, invert, andPair, xorPair, orOf, evenGate, invertIf, inverts, opposes};
+ghost use Rattle.model.specs.Values.{X, isSpecified, invert, andPair, xorPair, orOf, evenGate, invertIf, inverts, opposes};
 ghost use Rattle.lanes.specs.Lane.{bit, Holds, Conflict, lanesAt, stored, Room, turnedIf, Given};
 
 pub struct Lanes {
@@ -103,6 +103,17 @@ impl Lanes {
         Lanes {
             zeros: ((self.zeros | at.ones) ^ at.ones) | at.zeros,
             ones: ((self.ones | at.zeros) ^ at.zeros) | at.ones,
+        }
+    }
+
+    // X where `at` is known.
+    pub fn unless(self, at: Lanes) -> Lanes
+        ensures { λ r. ⌜ ((t v a : ℕ) → Holds t self v → Holds t at a → Holds t r (cond (isSpecified a) X v)) ⌝ }
+    {
+        let known = at.zeros | at.ones;
+        Lanes {
+            zeros: (self.zeros | known) ^ known,
+            ones: (self.ones | known) ^ known,
         }
     }
 

@@ -10,7 +10,7 @@ use lib.Dec.{eqb, leb, ltb}
 use native.Mathlib.Omega.{arith}
 use native.Mathlib.Decide.{decLe}
 use native.Mathlib.Nat.{div-add-mod', zero-mul}
-use borrow.Author.Tests.{eqb-true, leb-true, leb-false, ltb-true, ltb-false, not-false, ne-eqb, le-leb}
+use borrow.Author.Tests.{eqb-true, leb-true, leb-false, ltb-true, ltb-false, not-false, ne-eqb, le-leb, lt-leb}
 use Rattle.lists.specs.Scan.{firstAnswer}
 use Rattle.model.specs.Inputs.{N, kind, pinCount, pinLine, isFlipFlop, isGate, I, F, O, L, Fault, faultCount, faultAt, planCount}
 use Rattle.model.specs.Refusals.{Refusal, Answer, done, refused, answer, unlessRefused, refuse, row1, pinsFit, strayBytes, misnamed, misnames, rows2to5, row6, circuitRows, row7, row8, row9, faultFits, row10, row11, row12, row15, workBytes, row13, row14, inputRows, simulateRefusal, gradeRefusal, chooseRefusal, groupRefusal}
@@ -61,6 +61,15 @@ one-case false false p h e = absurd (true≢false (sym h))
 one-pin : (k p : ℕ) → pinsFit k p ≡ true → k ≤ 3 → p ≤ 1
 unfolding pinsFit
 one-pin k p e h = one-case (eqb k 0) (leb k 3) p (le-leb k 3 h) e
+
+two-case : (x y : Bool) (p : ℕ) → x ≡ false → y ≡ false → cond x (eqb p 0) (cond y (eqb p 1) (leb 2 p && leb p 4)) ≡ true → 2 ≤ p
+two-case true y p h g e = absurd (true≢false h)
+two-case false true p h g e = absurd (true≢false g)
+two-case false false p h g e = leb-true 2 p (and-left _ _ e)
+
+two-pins : (k p : ℕ) → pinsFit k p ≡ true → 4 ≤ k → 2 ≤ p
+unfolding pinsFit
+two-pins k p e h = two-case (eqb k 0) (leb k 3) p (ne-eqb k 0 (λ q. (let z : ⊥ = omega arith in z))) (lt-leb k 3 (omega arith)) e
 
 named-at : (c : List ℕ) (n i : ℕ) → misnames c n ≡ false → i < pinCount c n → leb (cond (isGate c n) n (N c)) (pinLine c n (i + 1)) ≡ false
 unfolding misnames misnamed
@@ -114,6 +123,7 @@ validCircuit c e =
       kinds = λ n h. at n h .low;
       pinned = λ n h g. has-pin _ _ (at n h .count) (omega (arith, gate-kind c n g));
       single = λ n h k. one-pin _ _ (at n h .count) k;
+      double = λ n h k. two-pins _ _ (at n h .count) k;
       few = λ n h. few-pins _ _ (at n h .count);
       lower = λ n i h g k.
           let next : i + 1 ≡ suc i = omega arith in

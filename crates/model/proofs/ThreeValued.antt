@@ -13,7 +13,7 @@ use Rattle.model.specs.Accepted.{ThreeValued}
 use Rattle.model.specs.Values.{X, invert, andPair, andOf, invertAll, orOf, xorPair, xorOf, evenGate, invertIf, inverts, gate}
 use Rattle.model.specs.Simulation.{isStuck, seen, pinSeen, pinsSeen, behind, valuesBelow, lineValues, nextState, powerUp, stateAt}
 
-invert-three : (v : ℕ) → invert v ≤ 2
+pub invert-three : (v : ℕ) → invert v ≤ 2
 unfolding invert
 invert-three zero = omega arith
 invert-three (suc zero) = omega arith
@@ -29,12 +29,12 @@ and-three (suc (suc a)) zero = omega arith
 and-three (suc (suc a)) (suc zero) = omega arith
 and-three (suc (suc a)) (suc (suc b)) = omega arith
 
-andOf-three : (pins : List ℕ) → andOf pins ≤ 2
+pub andOf-three : (pins : List ℕ) → andOf pins ≤ 2
 unfolding andOf
 andOf-three [] = omega arith
 andOf-three (a ∷ pins) = and-three a (andOf pins)
 
-xor-three : (a b : ℕ) → xorPair a b ≤ 2
+pub xor-three : (a b : ℕ) → xorPair a b ≤ 2
 unfolding xorPair
 xor-three zero zero = omega arith
 xor-three zero (suc zero) = omega arith
@@ -58,12 +58,12 @@ even-three (suc (suc (suc zero))) pins h = invert-three (andOf (invertAll pins))
 even-three (suc (suc (suc (suc zero)))) pins h = xorOf-three pins
 even-three (suc (suc (suc (suc (suc half))))) pins h = omega arith
 
-invertIf-three : (b : Bool) (v : ℕ) → v ≤ 2 → invertIf b v ≤ 2
+pub invertIf-three : (b : Bool) (v : ℕ) → v ≤ 2 → invertIf b v ≤ 2
 unfolding invertIf
 invertIf-three true v h = invert-three v
 invertIf-three false v h = h
 
-gate-three : (k : ℕ) (pins : List ℕ) → ThreeValued pins → gate k pins ≤ 2
+pub gate-three : (k : ℕ) (pins : List ℕ) → ThreeValued pins → gate k pins ≤ 2
 unfolding gate
 gate-three k pins h = invertIf-three (inverts k) (evenGate (k / 2) pins) (even-three (k / 2) pins h)
 
@@ -122,7 +122,7 @@ module _ (c : List ℕ) (f : Fault) (b : f .value < 2) where
   unfolding pinSeen
   pin-three vs n pin h = seen-three n pin _ (h .at _)
 
-  pins-three : (vs : List ℕ) (n : ℕ) → ThreeValued vs → ThreeValued (pinsSeen c f vs n)
+  pub pins-three : (vs : List ℕ) (n : ℕ) → ThreeValued vs → ThreeValued (pinsSeen c f vs n)
   unfolding pinsSeen
   pins-three vs n h = record { at = λ m. tabulate-three (λ pin. pinSeen c f vs n pin) 1 (pinCount c n) m (λ pin. pin-three vs n pin h) }
 

@@ -16,6 +16,7 @@ pub record ValidCircuit (c : List ℕ) : Type 0 where
   pub kinds : (n : ℕ) → n < N c → kind c n ≤ 9
   pub pinned : (n : ℕ) → n < N c → isGate c n ≡ true → 0 < pinCount c n
   pub single : (n : ℕ) → n < N c → kind c n ≤ 3 → pinCount c n ≤ 1
+  pub double : (n : ℕ) → n < N c → 4 ≤ kind c n → 2 ≤ pinCount c n
   pub few : (n : ℕ) → n < N c → pinCount c n ≤ 4
   pub lower : (n i : ℕ) → n < N c → isGate c n ≡ true → i < pinCount c n → pinLine c n (suc i) < n
   pub fed : (n : ℕ) → n < N c → isFlipFlop c n ≡ true → pinLine c n 1 < N c

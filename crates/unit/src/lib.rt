@@ -14,7 +14,7 @@ ghost use Rattle.unit.specs.Unit.{StuckAt, Stuck, MaskRoom};
 use lanes::Lanes;
 
 // What is seen at a pin (0: the line itself) of a line with this row of masks, where x stands behind it.
-fn seen_at(masks: &[u64], row: usize, pin: usize, x: Lanes) -> Lanes
+pub fn seen_at(masks: &[u64], row: usize, pin: usize, x: Lanes) -> Lanes
     requires { ⌜ (MaskRoom (now masks)) × (row < 256) × (pin < 5) ⌝ }
     ensures { λ r. ⌜ ((t : ℕ) (f : Fault) (n v : ℕ) → StuckAt t (now (masks .entry)) row f n → Holds t x v → Holds t r (seen f n pin v)) ⌝ }
 {
@@ -25,7 +25,7 @@ fn seen_at(masks: &[u64], row: usize, pin: usize, x: Lanes) -> Lanes
 }
 
 // What pin p of line n sees.
-fn pin_lanes(c: &[u8], masks: &[u64], words: &[u64], n: usize, p: usize, row: usize) -> Lanes
+pub fn pin_lanes(c: &[u8], masks: &[u64], words: &[u64], n: usize, p: usize, row: usize) -> Lanes
     requires { ⌜ (12 * n + 12 ≤ length (now c)) × (1 ≤ p) × (p ≤ 4) × (MaskRoom (now masks)) × (row < 256) × (Room (pinLine (now c) n p + 1) (now words)) ⌝ }
     ensures { λ r. ⌜ ((t : ℕ) (f : Fault) (vs : List ℕ) → StuckAt t (now (masks .entry)) row f n → Lane t (now (words .entry)) vs → pinLine (now (c .entry)) n p < length vs
         → Holds t r (pinSeen (now (c .entry)) f vs n p)) ⌝ }
