@@ -17,6 +17,9 @@ use Rattle.job.specs.declared.Job.{Job}
 use Rattle.job.specs.declared.JobCheck.{JobCheck}
 use Rattle.job.specs.declared.JobCheck.the-variants.{Ready, Broken}
 
+pub broken-unready : (rule at : ℕ) (j : Job) → Broken rule at ≡ Ready j → ⊥
+broken-unready rule at j e = let z : _≡_ {A = ℕ} 0 1 = cc in (let w : ⊥ = omega arith in w)
+
 module _ {c t : List ℕ} {rows : Refusal} where
   -- a job that is ready breaks no row
   pub ready-none : {r : JobCheck} {j : Job} → JobChecked c t rows r → r ≡ Ready j → rows ≡ none
@@ -35,7 +38,7 @@ module _ {c t : List ℕ} {rows : Refusal} where
 
   pub is-broken : {rule at : ℕ} → rows ≡ some (rule, at) → JobChecked c t rows (Broken rule at)
   unfolding jobRefusalOf
-  is-broken e = record { refusal = sym e; job = λ i same. let z : _≡_ {A = ℕ} 0 1 = cc in absurd (let w : ⊥ = omega arith in w) }
+  is-broken e = record { refusal = sym e; job = λ i same. absurd (broken-unready _ _ i same) }
 
 module _ {c t : List ℕ} {rows : Refusal} where
   -- what is broken stays broken, whatever is joined

@@ -1,6 +1,8 @@
+use mathlib.Core.Path.{refl}
 use native.Mathlib.Omega.{arith}
 use Rattle.model.specs.Refusals.{row13, row14, workBytes}
 use Rattle.job.proofs.Laws.{area-limit}
+use Rattle.rules.proofs.Laws.{two-rows}
 use borrow.Author.Needs.{needs}
 use Rattle.job.proofs.check_areas.Statement.{statement}
 use Rattle.job.proofs.check_areas.Tie as tie
@@ -16,7 +18,7 @@ add-need-3 c = omega (arith, area-limit (start c .pre))
 
 returns : tie.Need-returns
 unfolding row13 row14 workBytes
-returns c = λ cs ts j. cc
+returns c = λ cs ts j. two-rows _ _ _ _ (c .or .ensures) (c .before .before .refuse .ensures) (c .before .refuse2 .ensures) (rw (← j .lines, ← j .units, ← j .outputs, ← j .flops)) refl
 
 pub check-areas-spec : {M : Type 1} → statement M
 check-areas-spec =

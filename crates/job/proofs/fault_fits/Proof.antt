@@ -18,14 +18,16 @@ returns : tie.Need-returns
 unfolding faultFits
 returns c =
     let s = start (inside c .before) .args in
-    let low : ltb (faultAt (s .fs .now) (s .j) .line) (N (s .c .now)) ≡ true = cc (lt-ltb _ _ (inside c .if1 .taken)) in
-    rw low (cc)
+    let f = inside c .before .before .fault-of .ensures in
+    let low : ltb (faultAt (s .fs .now) (s .j) .line) (N (s .c .now)) ≡ true = rw (← f .line, ← start (inside c .before) .pre .1) (lt-ltb _ _ (inside c .if1 .taken)) in
+    rw (low, ← f .line, ← f .pin, ← f .value, ← c .before .before .before .pins-of .ensures .0) (c .both .ensures)
 
 returns-2 : tie.Need-returns-2
 unfolding faultFits
 returns-2 c =
     let s = start (c .before) .args in
-    let high : ltb (faultAt (s .fs .now) (s .j) .line) (N (s .c .now)) ≡ false = cc (le-ltb _ _ (c .if1 .left)) in
+    let f = c .before .before .fault-of .ensures in
+    let high : ltb (faultAt (s .fs .now) (s .j) .line) (N (s .c .now)) ≡ false = rw (← f .line, ← start (c .before) .pre .1) (le-ltb _ _ (c .if1 .left)) in
     rw high
 
 pub fault-fits-spec : {M : Type 1} → statement M

@@ -1,5 +1,5 @@
 use mathlib.Core.Option.{orElse}
-use mathlib.Core.Path.{_≡_, refl, _∙_}
+use mathlib.Core.Path.{_≡_, refl, sym, _∙_}
 use mathlib.Core.Bool.{true, false}
 use lib.Dec.{ltb}
 use borrow.Author.Tests.{lt-ltb, le-ltb, not-false}
@@ -25,7 +25,7 @@ returns c = rw (← c .before .before .field .ensures .kind refl, lt-ltb _ _ (c 
 -- row 2 passes, and row 3 is what was asked
 asked : (c : tie.After-pins-fit) → let s = start (read c) .args in
     (ltb 9 (kind (s .c .now) (s .n)) ≡ false) × (pinsFit (kind (s .c .now) (s .n)) (pinCount (s .c .now) (s .n)) ≡ c .pins-fit .result)
-asked c = let k = read c .field .ensures .kind refl in (rw (← k) (le-ltb _ _ (c .before .if1 .left)), cc)
+asked c = let k = read c .field .ensures .kind refl in (rw (← k) (le-ltb _ _ (c .before .if1 .left)), rw (← k, ← c .before .before .pins-of .ensures .0) (sym (c .pins-fit .ensures)))
 
 returns-2 : tie.Need-returns-2
 unfolding refusalOf rows2to5 refuse orElse

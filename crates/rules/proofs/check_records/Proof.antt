@@ -41,7 +41,7 @@ loop-again c =
 
 returns-2 : tie.Need-returns-2 Inv-loop μ-loop
 unfolding refusalOf
-returns-2 c = let end : c .before .before .before .args .lines ≡ c .before .loop .n = omega arith in cc
+returns-2 c = let end : c .before .before .before .args .lines ≡ c .before .loop .n = omega arith in rw end (sym (c .before .loop .inv .1))
 
 pub check-records-spec : {M : Type 1} → statement M
 check-records-spec =

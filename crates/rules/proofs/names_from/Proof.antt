@@ -1,5 +1,5 @@
 -- The loop's invariant: none of the pins before pin i + 1 names too high a line.
-use mathlib.Core.Path.{_≡_, refl, sym}
+use mathlib.Core.Path.{_≡_, refl, sym, _∙_}
 use mathlib.Core.Bool.{false}
 use Prim.Native.Nat.{_≤_, _-_}
 use native.Mathlib.Omega.{arith}
@@ -25,14 +25,14 @@ loop-holds c = (omega arith, refl)
 
 returns : tie.Need-returns Inv-loop μ-loop
 unfolding namesFrom
-returns c = sym (anyBelow-stop _ _ _ (cc) (turn (c .before) .loop-test .taken))
+returns c = sym (anyBelow-stop _ _ _ (rw (← c .before .before .pin-of .ensures .0) (sym (c .before .both .ensures) ∙ c .if1 .taken)) (turn (c .before) .loop-test .taken))
 
 loop-again : tie.Need-loop-again Inv-loop μ-loop
 unfolding namesFrom
-loop-again c = (omega arith, anyBelow-turn _ _ (turn (c .before) .before .loop .inv .1) (cc))
+loop-again c = (omega arith, anyBelow-turn _ _ (turn (c .before) .before .loop .inv .1) (rw (← c .before .before .pin-of .ensures .0) (sym (c .before .both .ensures) ∙ c .if1 .left)))
 
 returns-2 : tie.Need-returns-2 Inv-loop μ-loop
-returns-2 c = let end : c .before .before .before .args .to ≡ c .before .loop .i = omega arith in cc
+returns-2 c = let end : c .before .before .before .args .to ≡ c .before .loop .i = omega arith in rw end (sym (c .before .loop .inv .1))
 
 pub names-from-spec : {M : Type 1} → statement M
 names-from-spec =

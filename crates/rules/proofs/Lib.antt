@@ -1,0 +1,2 @@
+-- Laws of the checks.
+pub mod Laws
