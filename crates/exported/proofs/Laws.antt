@@ -18,7 +18,7 @@ use Rattle.lanes.proofs.Bits.{bit-none}
 use Rattle.unit.specs.Unit.{Stuck}
 use Rattle.faults.specs.Given.{Batch, laneFault, Given}
 use Rattle.faults.proofs.Batch.{valid-batch}
-use Rattle.run.specs.Run.{rowOf}
+use Rattle.lists.specs.Field.{rowOf}
 use Rattle.exported.specs.Detected.{unbroken, acceptable, opposed, detected}
 
 module _ (c t fs free : List ℕ) (j : ℕ) where

@@ -11,7 +11,7 @@ use Rattle.model.specs.Refusals.{Refusal, inputRows}
 use Rattle.model.specs.Values.{someOppose}
 use Rattle.model.specs.Simulation.{plainOutputs}
 use Rattle.faults.specs.Given.{laneFault}
-use Rattle.run.specs.Run.{rowOf}
+use Rattle.lists.specs.Field.{rowOf}
 
 unfoldable pub unbroken : Refusal → Bool
 unbroken none = true

@@ -1,7 +1,7 @@
--- 16-bit fields, low byte first, and bytes written over the beginning of an area.
+-- 16-bit fields, low byte first, bytes written over the beginning of an area, and tables of rows of one size.
 use Prim.Native.Nat.{ℕ, _+_, _*_, _/_, _%_}
 use mathlib.Core.List.{List, [], _∷_, _++_}
-use lib.ListN.{getD, length, drop}
+use lib.ListN.{getD, length, take, drop}
 
 -- the 16-bit number at a place
 unfoldable pub word16 : List ℕ → ℕ → ℕ
@@ -14,3 +14,7 @@ bytes16 n = n % 256 ∷ n / 256 % 256 ∷ []
 -- an area that held `old`, with `new` written at its beginning
 unfoldable pub overwritten : List ℕ → List ℕ → List ℕ
 overwritten new old = new ++ drop (length new) old
+
+-- row u of a table
+unfoldable pub rowOf : ℕ → List ℕ → ℕ → List ℕ
+rowOf size table u = take size (drop (size * u) table)

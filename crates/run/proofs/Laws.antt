@@ -10,6 +10,7 @@ use native.Mathlib.Numerals.{add-one}
 use native.Mathlib.Omega.{arith}
 use native.Mathlib.Nat.{mul-le-mul, mul-le-mul-left, mul-suc, mul-comm}
 use Rattle.lists.specs.Scan.{anyBelow, gather}
+use Rattle.lists.specs.Field.{rowOf}
 use Rattle.lists.proofs.Scan.{All, all-at, select-all, length-select, length-gather, gather-turn, getD-any, anyBelow-more, countBelow-bound}
 use Rattle.lists.proofs.Tests.{and-left, by-test}
 use Rattle.model.specs.Inputs.{N, I, F, O, L, isInput, isOutput, flipFlops, outputLines, inputsAt, Fault}
@@ -26,7 +27,7 @@ use Rattle.circuit.specs.Table.{Listed, PinTable, Tables}
 use Rattle.job.specs.Job.{JobOf}
 use Rattle.job.specs.declared.Job.{Job}
 use Rattle.unit.specs.Unit.{Stuck, MaskRoom}
-use Rattle.run.specs.Run.{Runnable, rowOf, runRow}
+use Rattle.run.specs.Run.{Runnable, runRow}
 
 -- record u of a table of n records of size i
 pub record-fits : (i u n : ℕ) → u < n → i * u + i ≤ n * i

@@ -1,7 +1,7 @@
--- What a run asks for, and tables over time: rows of one size, one a unit.
-use Prim.Native.Nat.{ℕ, _*_, _≤_}
+-- What a run asks for and leaves.
+use Prim.Native.Nat.{ℕ, _≤_}
 use mathlib.Core.List.{List, _++_}
-use lib.ListN.{length, take, drop}
+use lib.ListN.{length, take}
 use Rattle.model.specs.Inputs.{N, F, Fault}
 use Rattle.model.specs.Accepted.{ValidCircuit, ValidTest}
 use Rattle.model.specs.Simulation.{stateAt, outputsAt}
@@ -21,10 +21,6 @@ pub record Runnable (c t : List ℕ) (job : Job) (pins flops outs hits masks wor
   pub maskRoom : MaskRoom masks
   pub lineRoom : Room (N c) words
   pub stateRoom : Room (F c) state
-
--- row u of a table
-unfoldable pub rowOf : ℕ → List ℕ → ℕ → List ℕ
-rowOf size table u = take size (drop (size * u) table)
 
 -- what a run from a state leaves of unit u: the responses, then the first so many bits of the state
 unfoldable pub runRow : List ℕ → List ℕ → Fault → List ℕ → ℕ → ℕ → List ℕ

@@ -5,7 +5,7 @@ ghost use mathlib.Core.Path.{_≡_};
 ghost use Prim.Native.Nat.{ℕ, _+_, _*_, _<_, _≤_};
 ghost use lib.ListN.{length, take};
 ghost use Rattle.lists.specs.Scan.{anyBelow, gather};
-ghost use Rattle.lists.specs.Field.{overwritten};
+ghost use Rattle.lists.specs.Field.{overwritten, rowOf};
 ghost use Rattle.model.specs.Inputs.{N, I, F, O, L, outputLines, inputsAt, Fault};
 ghost use Rattle.model.specs.Accepted.{ValidCircuit, ThreeValued};
 ghost use Rattle.model.specs.Values.{someOppose};
@@ -13,7 +13,7 @@ ghost use Rattle.model.specs.Simulation.{powerUp, lineValues, outputs, outputsA
 ghost use Rattle.lanes.specs.Lane.{bit, Lane, Room};
 ghost use Rattle.circuit.specs.Table.{Listed, PinTable};
 ghost use Rattle.unit.specs.Unit.{Stuck, MaskRoom};
-ghost use Rattle.run.specs.Run.{Runnable, rowOf, runRow};
+ghost use Rattle.run.specs.Run.{Runnable, runRow};
 use job::Job;
 use lanes::Lanes;
 

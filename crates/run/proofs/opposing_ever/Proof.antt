@@ -7,13 +7,13 @@ use lib.ListN.{length}
 use native.Mathlib.Omega.{arith}
 use native.Mathlib.Nat.{mul-le-mul}
 use Rattle.lists.specs.Scan.{anyBelow}
+use Rattle.lists.specs.Field.{rowOf}
 use Rattle.model.specs.Inputs.{F, O, inputsAt, Fault}
 use Rattle.model.specs.Values.{someOppose}
 use Rattle.model.specs.Simulation.{lineValues, outputs, stateAt, outputsAt, valuesAt}
 use Rattle.model.proofs.Runs.{length-lineValues}
 use Rattle.lanes.specs.Lane.{bit, Lane}
 use Rattle.unit.specs.Unit.{Stuck}
-use Rattle.run.specs.Run.{rowOf}
 use Rattle.run.proofs.Laws.{record-fits, part-row, row-long, values-asked, next-asked, ever-none, ever-more, ever-stop, ever-all, state-turn, length-state}
 use Rattle.run.proofs.opposing_ever.Statement.{statement}
 use Rattle.run.proofs.opposing_ever.Tie as tie
