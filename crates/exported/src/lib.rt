@@ -21,6 +21,7 @@ fn detect(c: &[u8], job: Job, t: &[u8], fs: &[u8], free: &[u8]) -> u64
     let mut outs = [0usize; 256];
     let mut hits = [0u8; 4096];
     let mut masks = [0u64; 2560];
+    let mut feed = [0u64; 512];
     let mut words = [0u64; 8192];
     let mut state = [0u64; 512];
     circuit::list_tables(c, job.lines, &mut pins, &mut flops, &mut outs);
@@ -38,6 +39,7 @@ fn detect(c: &[u8], job: Job, t: &[u8], fs: &[u8], free: &[u8]) -> u64
         &outs,
         &hits,
         &masks,
+        &mut feed,
         &mut words,
         &mut state,
     )

@@ -58,6 +58,17 @@ bit-xor t a b =
     let d = digit-xor (a / 2 ^ t % 2) (b / 2 ^ t % 2) (half _) (half _) in
     rw (xor-shr a b t, xor-step (a / 2 ^ t) (b / 2 ^ t), low _ _ (d .0)) (d .1)
 
+without : (x k : Bool) → xorB (x || k) k ≡ (x && not k)
+unfolding xorB
+without true true = refl
+without true false = refl
+without false true = refl
+without false false = refl
+
+-- the bits of x that k does not have
+pub bit-without : (t x k : ℕ) → bit t (bitXor (bitOr x k) k) ≡ (bit t x && not (bit t k))
+bit-without t x k = rw (bit-xor t (bitOr x k) k, bit-or t x k) (without (bit t x) (bit t k))
+
 pub bit-none : (t : ℕ) → bit t 0 ≡ false
 unfolding bit
 bit-none t = rw (zero-div (2 ^ t))

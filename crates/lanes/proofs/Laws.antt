@@ -1,6 +1,6 @@
 -- The gates in one lane, and words stored and read.
 use mathlib.Core.Path.{_≡_, refl, sym, _∙_, ap}
-use mathlib.Core.Bool.{Bool, true, false, cond, _&&_, _||_, true≢false, or-false}
+use mathlib.Core.Bool.{Bool, true, false, cond, _&&_, _||_, true≢false, and-true, and-false, or-false}
 use mathlib.Core.List.{List, [], _∷_, _++_}
 use Prim.Native.Nat.{ℕ, zero, suc, _/_, _+_, _*_, _%_, _^_, _<_, _≤_}
 use native.Mathlib.Omega.{arith}
@@ -14,7 +14,7 @@ use Rattle.lists.proofs.Tests.{by-test}
 use Rattle.model.specs.Values.{isSpecified, invert, andPair, xorPair, andOf, orOf, invertAll, xorOf, evenGate, invertIf, opposes, give}
 use Rattle.lanes.specs.declared.Lanes.{Lanes}
 use Rattle.lanes.specs.Lane.{bit, is0, is1, Shows, Holds, Conflict, lanesAt, At, stored, Room, turnedIf, Lane, Given}
-use Rattle.lanes.proofs.Bits.{bit-and, bit-or, bit-xor, bit-none, bit-all, bit-one, xorB, other-odd, other-even}
+use Rattle.lanes.proofs.Bits.{bit-and, bit-or, bit-xor, bit-without, bit-none, bit-all, bit-one, xorB, other-odd, other-even}
 
 pub is0-inv : (v : ℕ) → is0 (invert v) ≡ is1 v
 unfolding is0 is1 invert
@@ -142,6 +142,22 @@ shows-unless t z o v p q a h g = record {
   zero? = rw (bit-xor t (bitOr z (bitOr p q)) (bitOr p q), bit-or t z (bitOr p q), bit-or t p q, h .zero?, g .zero?, g .one?, known a) (is-unless v (isSpecified a) .0);
   one? = rw (bit-xor t (bitOr o (bitOr p q)) (bitOr p q), bit-or t o (bitOr p q), bit-or t p q, h .one?, g .zero?, g .one?, known a) (is-unless v (isSpecified a) .1);
 }
+
+-- another's value in the lanes wanted
+module _ (t k : ℕ) where
+  merged : (x y : ℕ) (b : Bool) → (bit t k ≡ false → bit t x ≡ b) → (bit t k ≡ true → bit t y ≡ b) → bit t (bitOr (bitXor (bitOr x k) k) (bitAnd y k)) ≡ b
+  merged x y b f g =
+      rw (bit-or t (bitXor (bitOr x k) k) (bitAnd y k), bit-without t x k, bit-and t y k)
+      (by-test (bit t k)
+      (λ e. rw (e, and-false (bit t x)) (and-true (bit t y) ∙ g e))
+      (λ e. rw (e, and-true (bit t x), and-false (bit t y)) (or-false (bit t x) ∙ f e)))
+
+  pub shows-merge : (z o z′ o′ v : ℕ) → (bit t k ≡ false → Shows t z o v) → (bit t k ≡ true → Shows t z′ o′ v)
+      → Shows t (bitOr (bitXor (bitOr z k) k) (bitAnd z′ k)) (bitOr (bitXor (bitOr o k) k) (bitAnd o′ k)) v
+  shows-merge z o z′ o′ v f g = record {
+    zero? = merged z z′ (is0 v) (λ e. f e .zero?) (λ e. g e .zero?);
+    one? = merged o o′ (is1 v) (λ e. f e .one?) (λ e. g e .one?);
+  }
 
 -- ---- lists of words
 -- what stands at a place once another place, and once this place, was stored

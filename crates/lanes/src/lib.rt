@@ -1,6 +1,6 @@
 // 64 values at once, one in each lane: two 64-bit words, known 0 and known 1. X is neither, a conflict is both. Giving a value is an OR, AND is
 // an AND of the ones and an OR of the zeros, inverting swaps the words.
-ghost use mathlib.Core.Bool.{Bool, cond, _&&_};
+ghost use mathlib.Core.Bool.{Bool, true, false, cond, _&&_};
 ghost use mathlib.Core.List.{List, _∷_};
 ghost use mathlib.Core.Path.{_≡_};
 ghost use Prim.Native.Nat.{ℕ, _+_, _*_, _<_, _≤_, _/_, _%_};
@@ -114,6 +114,16 @@ impl Lanes {
         Lanes {
             zeros: (self.zeros | known) ^ known,
             ones: (self.ones | known) ^ known,
+        }
+    }
+
+    // y in the lanes wanted, this in all others.
+    pub fn merge(self, wanted: u64, y: Lanes) -> Lanes
+        ensures { λ r. ⌜ ((t v : ℕ) → (bit t wanted ≡ false → Holds t self v) → (bit t wanted ≡ true → Holds t y v) → Holds t r v) ⌝ }
+    {
+        Lanes {
+            zeros: ((self.zeros | wanted) ^ wanted) | (y.zeros & wanted),
+            ones: ((self.ones | wanted) ^ wanted) | (y.ones & wanted),
         }
     }
 

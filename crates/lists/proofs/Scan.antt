@@ -275,11 +275,6 @@ pub gather-turn : {A : Type 0} (g : ℕ → List A) (n : ℕ) → gather g (n + 
 unfolding gather
 gather-turn g n = rw add-one
 
-pub gather-same : {A : Type 0} (g h : ℕ → List A) → ((j : ℕ) → g j ≡ h j) → (n : ℕ) → gather g n ≡ gather h n
-unfolding gather
-gather-same g h e zero = refl
-gather-same g h e (suc n) = rw (gather-same g h e n, e n)
-
 -- within the list the default does not matter
 pub getD-any : (l : List ℕ) (i d e : ℕ) → i < length l → getD l i d ≡ getD l i e
 getD-any [] i d e h = absurd (let z : ⊥ = omega arith in z)

@@ -1,18 +1,18 @@
 -- What one turn of each loop adds.
 use mathlib.Core.Path.{_≡_, refl, sym, ap, _∙_}
 use Prim.Native.Nat.{ℕ, zero, suc, _+_, _-_, _*_, _<_, _≤_}
-use mathlib.Core.Bool.{Bool, true, false, _&&_, _||_, and-comm, or-false, or-assoc}
+use mathlib.Core.Bool.{Bool, true, false, _&&_, _||_, and-comm, or-false, or-assoc, true≢false}
 use mathlib.Core.List.{List, [], _∷_, _++_}
 use lib.Bits.{bitAnd, bitOr}
 use lib.ListN.{getD, length, take, drop, length-append, length-drop, length-map, getD-replicate, length-replicate, List·getD-map}
-use lib.Seq.{take-length, take-suc, length-take-le}
+use lib.Seq.{getD-take, take-length, take-all, take-suc, length-take-le}
 use native.Mathlib.Numerals.{add-one}
 use native.Mathlib.Omega.{arith}
 use native.Mathlib.Nat.{mul-le-mul, mul-le-mul-left, mul-suc, mul-comm}
 use Rattle.lists.specs.Scan.{anyBelow, gather}
 use Rattle.lists.specs.Field.{rowOf}
 use Rattle.lists.proofs.Scan.{All, all-at, select-all, length-select, length-gather, gather-turn, getD-any, anyBelow-more, countBelow-bound}
-use Rattle.lists.proofs.Tests.{and-left, by-test}
+use Rattle.lists.proofs.Tests.{and-left, by-test, by-eq}
 use Rattle.model.specs.Inputs.{N, I, F, O, L, isInput, isOutput, flipFlops, outputLines, inputsAt, Fault}
 use Rattle.model.specs.Accepted.{ValidCircuit, ValidTest, ValidInputs, ThreeValued}
 use Rattle.model.specs.Values.{X, opposes, someOppose}
@@ -20,14 +20,14 @@ use Rattle.model.specs.Simulation.{shown, powerUp, lineValues, outputs, nextSta
 use Rattle.model.proofs.Runs.{length-nextState}
 use Rattle.model.proofs.ThreeValued.{inputs-three, lineValues-three, stateAt-three}
 use Rattle.lanes.specs.declared.Lanes.{Lanes}
-use Rattle.lanes.specs.Lane.{bit, Holds, allX, lanesAt, stored, Room, Lane}
+use Rattle.lanes.specs.Lane.{bit, Holds, At, allX, lanesAt, stored, Room, Lane}
 use Rattle.lanes.proofs.Bits.{bit-and, bit-or, bit-none}
-use Rattle.lanes.proofs.Laws.{lane-read, lane-add, lane-none, shows-x}
+use Rattle.lanes.proofs.Laws.{lane-read, lane-add, lane-none, shows-x, holds-as, stored-same, stored-other}
 use Rattle.circuit.specs.Table.{Listed, PinTable, Tables}
 use Rattle.job.specs.Job.{JobOf}
 use Rattle.job.specs.declared.Job.{Job}
 use Rattle.unit.specs.Unit.{Stuck, MaskRoom}
-use Rattle.run.specs.Run.{Runnable, runRow}
+use Rattle.run.specs.Run.{Runnable}
 
 -- record u of a table of n records of size i
 pub record-fits : (i u n : ℕ) → u < n → i * u + i ≤ n * i
@@ -41,37 +41,45 @@ pub part-inputs : (c t : List ℕ) (i u : ℕ) → i ≡ I c → take (i * u + i
 unfolding inputsAt
 part-inputs c t i u e = let size : i * u + i - i * u ≡ i = omega arith in rw (size, e)
 
+pub length-inputs : (c t : List ℕ) (i u : ℕ) → i ≡ I c → i * u + i ≤ length t → length (inputsAt c t u) ≡ I c
+length-inputs c t i u e l = rw (← (part-inputs c t i u e)) (length-take-le (i * u + i - i * u) (drop (i * u) t) (rw length-drop (omega arith)) ∙ (let size : i * u + i - i * u ≡ I c = omega arith in size))
+
+pub fed-inputs : (c t : List ℕ) (i u : ℕ) → i ≡ I c → i * u + i ≤ length t → inputsAt c t u ≡ take i (take (i * u + i - i * u) (drop (i * u) t))
+fed-inputs c t i u e l = rw (part-inputs c t i u e) (sym (take-all i (inputsAt c t u) (omega (arith, length-inputs c t i u e l))))
+
+pub part-long : (i u : ℕ) (t : List ℕ) → i * u + i ≤ length t → i ≤ length (take (i * u + i - i * u) (drop (i * u) t))
+part-long i u t l = rw (length-take-le (i * u + i - i * u) (drop (i * u) t) (rw length-drop (omega arith))) (omega arith)
+
 pub part-row : (c free : List ℕ) (o u : ℕ) → o ≡ O c → take (o * u + o - o * u) (drop (o * u) free) ≡ rowOf (O c) free u
 unfolding rowOf
 part-row c free o u e = let size : o * u + o - o * u ≡ o = omega arith in rw (size, e)
 
 pub row-long : (free : List ℕ) (o u units : ℕ) → u < units → units * o ≤ length free → o ≤ length (take (o * u + o - o * u) (drop (o * u) free))
-row-long free o u units h l =
-    let fits : o * u + o ≤ units * o = record-fits o u units h in
-    rw (length-take-le (o * u + o - o * u) (drop (o * u) free) (rw length-drop (omega arith))) (omega arith)
+row-long free o u units h l = part-long o u free (omega (arith, l, record-fits o u units h))
 
 test-fits : (c t : List ℕ) (j : Job) (u : ℕ) → JobOf c t j → ValidTest c t → u < j .units → j .inputs * u + j .inputs ≤ length t
 test-fits c t j u o v h = rw (v .whole, ← (o .units), ← (o .inputs)) (record-fits (j .inputs) u (j .units) h)
 
 -- an accepted job, with its tables, in arrays of the sizes that every call makes
-pub runnable : {c t fs pins flops outs hits masks words state : List ℕ} {least most : ℕ} {j : Job} → ValidInputs c t least most fs → JobOf c t j → Tables c pins flops outs
-    → 4096 ≤ length hits → MaskRoom masks → Room 4096 words → Room 256 state → Runnable c t j pins flops outs hits masks words state
-runnable valid of tables hits masks words state = record {
+pub runnable : {c t fs pins flops outs hits masks feed words state : List ℕ} {least most : ℕ} {j : Job} → ValidInputs c t least most fs → JobOf c t j → Tables c pins flops outs
+    → 4096 ≤ length hits → MaskRoom masks → Room 256 feed → Room 4096 words → Room 256 state → Runnable c t j pins flops outs hits masks feed words state
+runnable valid of tables hits masks feed words state = record {
   circuit = valid .circuit;
   test = valid .test;
   sizes = of;
   tables = tables;
   hitRoom = omega (arith, valid .circuit .lines);
   maskRoom = masks;
+  feedRoom = omega (arith, valid .circuit .inputs);
   lineRoom = omega (arith, valid .circuit .lines);
   stateRoom = omega (arith, valid .circuit .flipFlops);
 }
 
--- what the two steps of a unit ask for, once words and states have been written over by w and s words
-module _ (c t : List ℕ) (j : Job) (pins flops outs hits masks words₀ state₀ : List ℕ) (run : Runnable c t j pins flops outs hits masks words₀ state₀)
-    (w s : ℕ) (lw : w ≡ length words₀) (ls : s ≡ length state₀) where
+-- what the two steps of a unit ask for, once inputs, words and states have been written over by d, w and s words
+module _ (c t : List ℕ) (j : Job) (pins flops outs hits masks feed₀ words₀ state₀ : List ℕ) (run : Runnable c t j pins flops outs hits masks feed₀ words₀ state₀)
+    (d w s : ℕ) (ld : d ≡ length feed₀) (lw : w ≡ length words₀) (ls : s ≡ length state₀) where
   pub values-asked : (u : ℕ) → u < j .units → ValidCircuit c × PinTable c pins × (j .lines ≡ N c) × (j .inputs ≡ I c) × (j .inputs * u + j .inputs ≤ length t) × (j .lines ≤ length hits) × MaskRoom masks
-      × (2 * j .lines ≤ w) × (2 * F c ≤ s)
+      × (2 * j .inputs ≤ d) × (2 * j .lines ≤ w) × (2 * F c ≤ s)
   values-asked u h = (
     run .circuit,
     run .tables .pinTable,
@@ -80,6 +88,7 @@ module _ (c t : List ℕ) (j : Job) (pins flops outs hits masks words₀ state�
     test-fits c t j u (run .sizes) (run .test) h,
     omega (arith, run .sizes .lines, run .hitRoom),
     run .maskRoom,
+    omega (arith, run .sizes .inputs, run .feedRoom),
     omega (arith, run .sizes .lines, run .lineRoom),
     omega (arith, run .stateRoom),
   )
@@ -98,16 +107,49 @@ module _ (c t : List ℕ) (j : Job) (pins flops outs hits masks words₀ state�
 -- row u of a table of rows of one size, in an area of so many bytes
 pub record RowRoom (size u room : ℕ) : Type 0 where
   pub fits : size * u + size ≤ room
-  pub below : size * u ≤ 524288
+  pub below : size * u ≤ 262144
 
-pub row-room : (c t : List ℕ) (j : Job) (bits u room : ℕ) → ValidCircuit c → ValidTest c t → JobOf c t j → bits ≤ F c → L c t * (O c + bits) ≤ room → u < j .units
-    → RowRoom (j .outputs + bits) u room
-row-room c t j bits u room v w o b l h =
-    let size = j .outputs + bits in
-    let all : j .units * size ≤ room = rw (o .units, o .outputs) l in
-    let few : size ≤ 512 = omega (arith, o .outputs, b, v .outputs, v .flipFlops) in
+pub row-room : (c t : List ℕ) (j : Job) (size columns u room : ℕ) → ValidTest c t → JobOf c t j → size ≡ columns → columns ≤ 256 → L c t * columns ≤ room → u < j .units → RowRoom size u room
+row-room c t j size columns u room w o e few l h =
+    let all : j .units * size ≤ room = rw (o .units, e) l in
     let early : u ≤ 1024 = omega (arith, h, o .units, w .most) in
-    record { fits = omega (arith, all, record-fits size u (j .units) h); below = omega (arith, mul-le-mul few early) }
+    let small : size ≤ 256 = omega arith in
+    record { fits = omega (arith, all, record-fits size u (j .units) h); below = omega (arith, mul-le-mul small early) }
+
+-- ---- a row put into lanes
+-- place m once place i was stored
+stored-at : (lane : ℕ) (ws ws′ : List ℕ) (i m v : ℕ) (x : Lanes) → ws′ ≡ stored ws i x → Room (i + 1) ws → (m ≡ i → Holds lane x v) → ((m ≡ i → ⊥) → At lane ws m v) → At lane ws′ m v
+stored-at lane ws ws′ i m v x e room same other = rw e (by-eq m i
+    (λ here. rw here (holds-as lane _ _ v (stored-same ws i x room) (same here)))
+    (λ away. holds-as lane _ _ v (stored-other ws i m x away) (other away)))
+
+-- the first i places hold the row's values where the lane is wanted; else each place holds what it held
+pub record Loaded (lane wanted : ℕ) (row : List ℕ) (i : ℕ) (before after : List ℕ) : Type 0 where
+  pub taken : bit lane wanted ≡ true → (m : ℕ) → m < i → At lane after m (getD row m 0)
+  pub kept : bit lane wanted ≡ false → (m v : ℕ) → At lane before m v → At lane after m v
+
+module _ (lane wanted : ℕ) (row before : List ℕ) where
+  pub loaded-none : Loaded lane wanted row 0 before before
+  loaded-none = record { taken = λ b m h. absurd (let z : ⊥ = omega arith in z); kept = λ b m v h. h }
+
+  pub loaded-more : (ws ws′ : List ℕ) (i : ℕ) (x y z : Lanes) → ws′ ≡ stored ws i x → Room (i + 1) ws → y ≡ lanesAt ws i → Holds lane z (getD row i 0)
+      → ((t v : ℕ) → (bit t wanted ≡ false → Holds t y v) → (bit t wanted ≡ true → Holds t z v) → Holds t x v) → Loaded lane wanted row i before ws → Loaded lane wanted row (i + 1) before ws′
+  loaded-more ws ws′ i x y z e room at all merge h = record {
+    taken = λ b m l.
+        stored-at lane ws ws′ i m _ x e room (λ here. rw here (merge lane _ (λ no. absurd (true≢false (sym b ∙ no))) (λ yes-wanted. all))) (λ away. h .taken b m (let low : m < i = omega arith in low));
+    kept = λ b m v l.
+        stored-at lane ws ws′ i m v x e room (λ here. merge lane v (λ no. holds-as lane y _ v at (rw (← here) (h .kept b m v l))) (λ wants. absurd (true≢false (sym wants ∙ b)))) (λ away. h .kept b m v l);
+  }
+
+  pub loaded-all : (ws vs : List ℕ) (count : ℕ) → count ≤ length row → (bit lane wanted ≡ true → vs ≡ take count row) → (bit lane wanted ≡ false → Lane lane before vs) → Loaded lane wanted row count before ws → Lane lane ws vs
+  unfolding Lane
+  loaded-all ws vs count l is keeps h m k = by-test (bit lane wanted)
+      (λ b.
+      let same = is b in
+      let low : m < count = omega (arith, ap length same, length-take-le count row l) in
+      let value : getD vs m X ≡ getD row m 0 = ap (λ v. getD v m X) same ∙ getD-take count row m X low ∙ getD-any row m X 0 (omega arith) in
+      rw value (h .taken b m low))
+      (λ b. h .kept b m _ (keeps b m k))
 
 -- ---- the loop over the outputs
 length-outputLines : (c : List ℕ) → length (outputLines c) ≡ O c
@@ -244,20 +286,18 @@ module _ (c t : List ℕ) (f : Fault) (st : List ℕ) where
   length-state zero e = e
   length-state (suc u) e = length-nextState c f _
 
-  -- rows of the units below u
-  unfoldable pub rows : ℕ → ℕ → List ℕ
-  rows bits u = gather (λ u. runRow c t f st bits u) u
+  -- the rows of the units below u: the responses, and the first bits of the state
+  pub length-responses : (u : ℕ) → length (gather (λ u. outputsAt c t f st u) u) ≡ O c * u
+  length-responses u = length-gather (λ u. outputsAt c t f st u) (O c) (λ u. unfold outputsAt in length-outputs c f _) u
 
-  pub length-rows : (bits u : ℕ) → length st ≡ F c → bits ≤ F c → length (rows bits u) ≡ (O c + bits) * u
-  unfolding rows
-  length-rows bits u e h =
-      length-gather (λ u. runRow c t f st bits u) (O c + bits)
-      (λ u. unfold runRow outputsAt in (length-append (outputs c f (valuesAt c t f st u)) (take bits (stateAt c t f st u)) ∙ (
-      let o : length (outputs c f (valuesAt c t f st u)) ≡ O c = length-outputs c f _ in
-      let all : length (stateAt c t f st u) ≡ F c = length-state u e in
-      let s : length (take bits (stateAt c t f st u)) ≡ bits = length-take-le bits (stateAt c t f st u) (omega arith) in
-      omega arith))) u
+  pub length-states : (bits u : ℕ) → length st ≡ F c → bits ≤ F c → length (gather (λ u. take bits (stateAt c t f st u)) u) ≡ bits * u
+  length-states bits u e h =
+      length-gather (λ u. take bits (stateAt c t f st u)) bits
+      (λ u. let all : length (stateAt c t f st u) ≡ F c = length-state u e in length-take-le bits (stateAt c t f st u) (omega arith)) u
 
-  pub rows-turn : (bits u : ℕ) → rows bits (u + 1) ≡ rows bits u ++ (outputs c f (lineValues c f (inputsAt c t u) (stateAt c t f st u)) ++ take bits (stateAt c t f st u))
-  unfolding rows runRow outputsAt valuesAt
-  rows-turn bits u = gather-turn (λ u. runRow c t f st bits u) u
+  pub responses-turn : (u : ℕ) → gather (λ u. outputsAt c t f st u) (u + 1) ≡ gather (λ u. outputsAt c t f st u) u ++ outputs c f (lineValues c f (inputsAt c t u) (stateAt c t f st u))
+  unfolding outputsAt valuesAt
+  responses-turn u = gather-turn (λ u. outputsAt c t f st u) u
+
+  pub states-turn : (bits u : ℕ) → gather (λ u. take bits (stateAt c t f st u)) (u + 1) ≡ gather (λ u. take bits (stateAt c t f st u)) u ++ take bits (stateAt c t f st u)
+  states-turn bits u = gather-turn (λ u. take bits (stateAt c t f st u)) u

@@ -1,6 +1,6 @@
 // Runs of a test in 64 lanes, unit by unit: what a lane shows, as tables in a lent area, and the lanes in which an output opposes.
-ghost use mathlib.Core.Bool.{_&&_};
-ghost use mathlib.Core.List.{List, _++_};
+ghost use mathlib.Core.Bool.{true, false, _&&_};
+ghost use mathlib.Core.List.{List};
 ghost use mathlib.Core.Path.{_≡_};
 ghost use Prim.Native.Nat.{ℕ, _+_, _*_, _<_, _≤_};
 ghost use lib.ListN.{length, take};
@@ -9,15 +9,31 @@ ghost use Rattle.lists.specs.Field.{overwritten, rowOf};
 ghost use Rattle.model.specs.Inputs.{N, I, F, O, L, outputLines, inputsAt, Fault};
 ghost use Rattle.model.specs.Accepted.{ValidCircuit, ThreeValued};
 ghost use Rattle.model.specs.Values.{someOppose};
-ghost use Rattle.model.specs.Simulation.{powerUp, lineValues, outputs, outputsAt};
+ghost use Rattle.model.specs.Simulation.{powerUp, lineValues, outputs, stateAt, outputsAt};
 ghost use Rattle.lanes.specs.Lane.{bit, Lane, Room};
 ghost use Rattle.circuit.specs.Table.{Listed, PinTable};
 ghost use Rattle.unit.specs.Unit.{Stuck, MaskRoom};
-ghost use Rattle.run.specs.Run.{Runnable, runRow};
+ghost use Rattle.run.specs.Run.{Runnable};
 use job::Job;
 use lanes::Lanes;
 
-// The values of all lines at unit u of a test, from the state there.
+// All lanes.
+pub const ALL: u64 = 0xffff_ffff_ffff_ffff;
+
+// The values of a row, a byte each, in the lanes wanted, at the first places; all other lanes keep theirs.
+pub fn load_row(row: &[u8], count: usize, wanted: u64, words: &mut [u64])
+    requires { ⌜ (count ≤ length (now row)) × (Room count (now words)) ⌝ }
+    ensures { λ _. ⌜ ((lane : ℕ) (vs : List ℕ) → lane < 64 → (bit lane wanted ≡ true → vs ≡ take count (now (row .entry))) → (bit lane wanted ≡ false → Lane lane (now (words .entry)) vs) → Lane lane (now (words .exit)) vs) ⌝ }
+{
+    let mut i: usize = 0;
+    while i < count {
+        let x = lanes::read(words, i).merge(wanted, Lanes::all(row[i]));
+        lanes::store(words, i, x);
+        i += 1;
+    }
+}
+
+// The values of all lines at unit u of a test, from the state there; `feed` is for the inputs.
 pub fn values_at(
     c: &[u8],
     pins: &[u16],
@@ -28,16 +44,18 @@ pub fn values_at(
     state: &[u64],
     hits: &[u8],
     masks: &[u64],
+    feed: &mut [u64],
     words: &mut [u64],
 )
     requires { ⌜ (ValidCircuit (now c)) × (PinTable (now c) (now pins)) × (lines ≡ N (now c)) × (inputs ≡ I (now c)) × (inputs * u + inputs ≤ length (now t)) × (lines ≤ length (now hits))
-        × (MaskRoom (now masks)) × (Room lines (now words)) × (Room (F (now c)) (now state)) ⌝ }
+        × (MaskRoom (now masks)) × (Room inputs (now feed)) × (Room lines (now words)) × (Room (F (now c)) (now state)) ⌝ }
     ensures { λ _. ⌜ ((lane : ℕ) (f : Fault) (st : List ℕ) → Stuck lane (now (hits .entry)) (now (masks .entry)) f → Lane lane (now (state .entry)) st → length st ≡ F (now (c .entry))
         → Lane lane (now (words .exit)) (lineValues (now (c .entry)) f (inputsAt (now (c .entry)) (now (t .entry)) u) st)) ⌝ }
 {
     let at = inputs * u;
     let to = at + inputs;
-    unit::simulate_unit(c, pins, lines, &t[at..to], state, hits, masks, words);
+    load_row(&t[at..to], inputs, ALL, feed);
+    unit::simulate_unit(c, pins, lines, feed, state, hits, masks, words);
 }
 
 // Every flip-flop at X, in all lanes.
@@ -88,29 +106,8 @@ pub fn write_state(state: &[u64], count: usize, lane: usize, area: &mut [u8])
     }
 }
 
-// A lane's row of a unit: what the outputs show, then the first so many bits of the state.
-fn write_row(
-    c: &[u8],
-    outs: &[usize],
-    count: usize,
-    hits: &[u8],
-    masks: &[u64],
-    words: &[u64],
-    state: &[u64],
-    bits: usize,
-    lane: usize,
-    area: &mut [u8],
-)
-    requires { ⌜ (ValidCircuit (now c)) × (Listed (outputLines (now c)) (now outs)) × (count ≡ O (now c)) × (Room (N (now c)) (now words)) × (Room bits (now state)) × (lane < 64) × (count + bits ≤ length (now area)) ⌝ }
-    ensures { λ _. ⌜ ((f : Fault) (vs st : List ℕ) → Stuck lane (now (hits .entry)) (now (masks .entry)) f → Lane lane (now (words .entry)) vs → length vs ≡ N (now (c .entry)) → ThreeValued vs
-        → Lane lane (now (state .entry)) st → bits ≤ length st → ThreeValued st → now (area .exit) ≡ overwritten (outputs (now (c .entry)) f vs ++ take bits st) (now (area .entry))) ⌝ }
-{
-    write_outputs(c, outs, count, hits, masks, words, lane, area);
-    write_state(state, bits, lane, &mut area[count..]);
-}
-
-// The run of a lane, a row a unit: the responses, then the first so many bits of the state.
-pub fn write_rows(
+// The run of a lane, two tables with a row a unit: the responses, and the first so many bits of the state.
+pub fn write_run(
     c: &[u8],
     job: Job,
     t: &[u8],
@@ -120,19 +117,23 @@ pub fn write_rows(
     outs: &[usize],
     hits: &[u8],
     masks: &[u64],
+    feed: &mut [u64],
     words: &mut [u64],
     state: &mut [u64],
     lane: usize,
-    area: &mut [u8],
+    responses: &mut [u8],
+    states: &mut [u8],
 )
-    requires { ⌜ (Runnable (now c) (now t) job (now pins) (now flops) (now outs) (now hits) (now masks) (now words) (now state)) × (bits ≤ F (now c)) × (lane < 64) × (L (now c) (now t) * (O (now c) + bits) ≤ length (now area)) ⌝ }
+    requires { ⌜ (Runnable (now c) (now t) job (now pins) (now flops) (now outs) (now hits) (now masks) (now feed) (now words) (now state)) × (bits ≤ F (now c)) × (lane < 64)
+        × (L (now c) (now t) * O (now c) ≤ length (now responses)) × (L (now c) (now t) * bits ≤ length (now states)) ⌝ }
     ensures { λ _. ⌜ ((f : Fault) (st : List ℕ) → Stuck lane (now (hits .entry)) (now (masks .entry)) f → Lane lane (now (state .entry)) st → length st ≡ F (now (c .entry)) → ThreeValued st
-        → now (area .exit) ≡ overwritten (gather (λ u. runRow (now (c .entry)) (now (t .entry)) f st bits u) (L (now (c .entry)) (now (t .entry)))) (now (area .entry))) ⌝ }
+        → (now (responses .exit) ≡ overwritten (gather (λ u. outputsAt (now (c .entry)) (now (t .entry)) f st u) (L (now (c .entry)) (now (t .entry)))) (now (responses .entry)))
+        × (now (states .exit) ≡ overwritten (gather (λ u. take bits (stateAt (now (c .entry)) (now (t .entry)) f st u)) (L (now (c .entry)) (now (t .entry)))) (now (states .entry)))) ⌝ }
 {
-    let size = job.outputs + bits;
     let mut u: usize = 0;
     while u < job.units {
-        let place = size * u;
+        let place = job.outputs * u;
+        let row = bits * u;
         values_at(
             c,
             pins,
@@ -143,20 +144,20 @@ pub fn write_rows(
             state,
             hits,
             masks,
+            feed,
             words,
         );
-        write_row(
+        write_outputs(
             c,
             outs,
             job.outputs,
             hits,
             masks,
             words,
-            state,
-            bits,
             lane,
-            &mut area[place..],
+            &mut responses[place..],
         );
+        write_state(state, bits, lane, &mut states[row..]);
         unit::next_state(c, flops, job.flops, hits, masks, words, state);
         u += 1;
     }
@@ -200,10 +201,11 @@ pub fn opposing_ever(
     outs: &[usize],
     hits: &[u8],
     masks: &[u64],
+    feed: &mut [u64],
     words: &mut [u64],
     state: &mut [u64],
 ) -> u64
-    requires { ⌜ (Runnable (now c) (now t) job (now pins) (now flops) (now outs) (now hits) (now masks) (now words) (now state)) × (units ≤ L (now c) (now t)) × (units * O (now c) ≤ length (now free)) ⌝ }
+    requires { ⌜ (Runnable (now c) (now t) job (now pins) (now flops) (now outs) (now hits) (now masks) (now feed) (now words) (now state)) × (units ≤ L (now c) (now t)) × (units * O (now c) ≤ length (now free)) ⌝ }
     ensures { λ r. ⌜ ((lane : ℕ) (f : Fault) (st : List ℕ) → Stuck lane (now (hits .entry)) (now (masks .entry)) f → Lane lane (now (state .entry)) st → length st ≡ F (now (c .entry))
         → bit lane r ≡ bit lane wanted && anyBelow (λ u. someOppose (rowOf (O (now (c .entry))) (now (free .entry)) u) (outputsAt (now (c .entry)) (now (t .entry)) f st u)) units) ⌝ }
 {
@@ -222,6 +224,7 @@ pub fn opposing_ever(
             state,
             hits,
             masks,
+            feed,
             words,
         );
         found = found | opposing(c, outs, job.outputs, hits, masks, words, &free[at..to]);

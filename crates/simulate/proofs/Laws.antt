@@ -1,16 +1,14 @@
 -- The fault of Simulate's list, and the bytes that it writes.
-use mathlib.Core.Path.{_≡_}
+use mathlib.Core.Path.{_≡_, refl}
 use Prim.Native.Nat.{ℕ, _*_, _/_, _<_, _≤_}
-use mathlib.Core.List.{List, append-nil}
+use mathlib.Core.List.{List}
 use lib.ListN.{length}
 use native.Mathlib.Omega.{arith}
 use borrow.Author.Tests.{eq-eqb, ne-eqb}
 use Rattle.lists.specs.Scan.{gather}
-use Rattle.lists.proofs.Scan.{gather-same}
 use Rattle.model.specs.Inputs.{O, L, faultAt, faultCount}
-use Rattle.model.specs.Simulation.{noFault, powerUp, plainOutputs}
+use Rattle.model.specs.Simulation.{noFault, powerUp, outputsAt, plainOutputs}
 use Rattle.model.specs.Simulate.{onlyFault, simulateBytes}
-use Rattle.run.specs.Run.{runRow}
 
 pub only-one : (fs : List ℕ) → 4 ≤ length fs → onlyFault fs ≡ faultAt fs 0
 unfolding onlyFault faultCount
@@ -24,7 +22,6 @@ pub some-fault : (fs : List ℕ) → 4 ≤ length fs → 0 < faultCount fs
 unfolding faultCount
 some-fault fs h = omega arith
 
--- rows with no bit of the state are the responses
-pub rows-plain : (c t fs : List ℕ) → gather (λ u. runRow c t (onlyFault fs) (powerUp c) 0 u) (L c t) ≡ simulateBytes c t fs
-unfolding simulateBytes runRow plainOutputs
-rows-plain c t fs = gather-same _ _ (λ u. append-nil _) (L c t)
+pub responses-plain : (c t fs : List ℕ) → gather (λ u. outputsAt c t (onlyFault fs) (powerUp c) u) (L c t) ≡ simulateBytes c t fs
+unfolding simulateBytes plainOutputs
+responses-plain c t fs = refl

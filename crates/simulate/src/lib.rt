@@ -35,12 +35,14 @@ fn respond(c: &[u8], job: Job, t: &[u8], fs: &[u8], result: &mut [u8])
     let mut outs = [0usize; 256];
     let mut hits = [0u8; 4096];
     let mut masks = [0u64; 2560];
+    let mut feed = [0u64; 512];
     let mut words = [0u64; 8192];
     let mut state = [0u64; 512];
+    let mut none = [0u8; 1];
     circuit::list_tables(c, job.lines, &mut pins, &mut flops, &mut outs);
     give_only(fs, &mut hits, &mut masks);
     run::power_up(c, job.flops, &mut state);
-    run::write_rows(
+    run::write_run(
         c,
         job,
         t,
@@ -50,10 +52,12 @@ fn respond(c: &[u8], job: Job, t: &[u8], fs: &[u8], result: &mut [u8])
         &outs,
         &hits,
         &masks,
+        &mut feed,
         &mut words,
         &mut state,
         0,
         result,
+        &mut none,
     );
 }
 

@@ -61,10 +61,9 @@ shows-gate t z o k pins seen e h = rw e h
 
 -- ---- what stands behind a line, by its kind
 module _ (t z o : ℕ) (c : List ℕ) (f : Fault) (inputs st vs : List ℕ) (n : ℕ) where
-  pub behind-input : (i : ℕ) → kind c n ≡ 0 → i ≡ countBelow (λ m. isInput c m) n → i < length inputs → Shows t z o (getD inputs i 0)
-      → Shows t z o (behind c f inputs st vs n)
+  pub behind-input : (i : ℕ) → kind c n ≡ 0 → i ≡ countBelow (λ m. isInput c m) n → Shows t z o (getD inputs i X) → Shows t z o (behind c f inputs st vs n)
   unfolding behind isInput
-  behind-input i e g l h = rw (eq-eqb (kind c n) 0 e, ← g, ← (getD-any inputs i 0 X l)) h
+  behind-input i e g h = rw (eq-eqb (kind c n) 0 e, ← g) h
 
   pub behind-state : (s : ℕ) → kind c n ≡ 1 → s ≡ countBelow (λ m. isFlipFlop c m) n → Shows t z o (getD st s X) → Shows t z o (behind c f inputs st vs n)
   unfolding behind isInput isFlipFlop

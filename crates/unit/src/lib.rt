@@ -1,4 +1,4 @@
-// One time unit in 64 lanes, with a state and a fault of its own in each: the values of all lines, in line order, and the next state.
+// One time unit in 64 lanes, with inputs, a state and a fault of its own in each: the values of all lines, in line order, and the next state.
 ghost use mathlib.Core.Path.{_≡_};
 ghost use mathlib.Core.List.{List};
 ghost use mathlib.Core.Bool.{Bool, false, cond};
@@ -110,7 +110,7 @@ pub fn any_gate(
 fn behind_lanes(
     c: &[u8],
     pins: &[u16],
-    inputs: &[u8],
+    inputs: &[u64],
     state: &[u64],
     masks: &[u64],
     words: &[u64],
@@ -119,15 +119,12 @@ fn behind_lanes(
     row: usize,
 ) -> Lanes
     requires { ⌜ (ValidCircuit (now c)) × (n < N (now c)) × (k ≡ kind (now c) n) × (PinTable (now c) (now pins)) × (MaskRoom (now masks)) × (row < 256) × (Room n (now words))
-        × (I (now c) ≤ length (now inputs)) × (Room (F (now c)) (now state)) ⌝ }
-    ensures { λ r. ⌜ ((t : ℕ) (f : Fault) (st vs : List ℕ) → t < 64 → StuckAt t (now (masks .entry)) row f n → Lane t (now (state .entry)) st → length st ≡ F (now (c .entry))
-        → Lane t (now (words .entry)) vs → length vs ≡ n → Holds t r (behind (now (c .entry)) f (now (inputs .entry)) st vs n)) ⌝ }
+        × (Room (I (now c)) (now inputs)) × (Room (F (now c)) (now state)) ⌝ }
+    ensures { λ r. ⌜ ((t : ℕ) (f : Fault) (ins st vs : List ℕ) → StuckAt t (now (masks .entry)) row f n → Lane t (now (inputs .entry)) ins → length ins ≡ I (now (c .entry)) → Lane t (now (state .entry)) st → length st ≡ F (now (c .entry))
+        → Lane t (now (words .entry)) vs → length vs ≡ n → Holds t r (behind (now (c .entry)) f ins st vs n)) ⌝ }
 {
     match k {
-        0 => {
-            let i = basics::wide16(pins[4 * n]);
-            Lanes::all(inputs[i])
-        }
+        0 => lanes::read(inputs, basics::wide16(pins[4 * n])),
         1 => lanes::read(state, basics::wide16(pins[4 * n])),
         _ => any_gate(c, pins, masks, words, n, k, row),
     }
@@ -138,16 +135,16 @@ pub fn simulate_unit(
     c: &[u8],
     pins: &[u16],
     lines: usize,
-    inputs: &[u8],
+    inputs: &[u64],
     state: &[u64],
     hits: &[u8],
     masks: &[u64],
     words: &mut [u64],
 )
     requires { ⌜ (ValidCircuit (now c)) × (PinTable (now c) (now pins)) × (lines ≡ N (now c)) × (lines ≤ length (now hits)) × (MaskRoom (now masks)) × (Room lines (now words))
-        × (I (now c) ≤ length (now inputs)) × (Room (F (now c)) (now state)) ⌝ }
-    ensures { λ _. ⌜ ((t : ℕ) (f : Fault) (st : List ℕ) → Stuck t (now (hits .entry)) (now (masks .entry)) f → Lane t (now (state .entry)) st → length st ≡ F (now (c .entry))
-        → Lane t (now (words .exit)) (lineValues (now (c .entry)) f (now (inputs .entry)) st)) ⌝ }
+        × (Room (I (now c)) (now inputs)) × (Room (F (now c)) (now state)) ⌝ }
+    ensures { λ _. ⌜ ((t : ℕ) (f : Fault) (ins st : List ℕ) → Stuck t (now (hits .entry)) (now (masks .entry)) f → Lane t (now (inputs .entry)) ins → length ins ≡ I (now (c .entry)) → Lane t (now (state .entry)) st → length st ≡ F (now (c .entry))
+        → Lane t (now (words .exit)) (lineValues (now (c .entry)) f ins st)) ⌝ }
 {
     let mut n: usize = 0;
     while n < lines {

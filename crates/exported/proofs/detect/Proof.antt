@@ -21,7 +21,7 @@ abbrev given : tie.After-state → tie.After-give-batch
 given c = c .before .before .before
 
 abbrev powered : tie.After-state3 → tie.After-state2
-powered c = c .before .before .before .before .before .before .before
+powered c = c .before .before .before .before .before .before .before .before
 
 list-tables-requires : tie.Need-list-tables-requires
 list-tables-requires c κs =
@@ -38,14 +38,14 @@ opposing-ever-requires c κs =
     let tables = tabled (give .before) in
     let pre = start (tables .before) .pre in
     let masks = power .before .before .before in (
-      runnable (pre .0) (pre .1) (tables .list-tables .ensures) (omega (arith, masks .before .hits2 .given)) (omega (arith, masks .masks2 .given)) (omega arith) (omega (arith, power .state2 .given)),
+      runnable (pre .0) (pre .1) (tables .list-tables .ensures) (omega (arith, masks .before .hits2 .given)) (omega (arith, masks .masks2 .given)) (omega arith) (omega arith) (omega (arith, power .state2 .given)),
       omega (arith, pre .1 .units),
       rw (pre .1 .units) (pre .2),
     )
 
 returns : tie.Need-returns
 returns c = λ j h.
-    let ran = c .before .before in
+    let ran = c .before .before .before in
     let power = powered (ran .before) in
     let give = given (power .before .before) in
     let begin = start (tabled (give .before) .before) in
@@ -66,6 +66,7 @@ detect-spec =
     give-batch-requires
     (λ c. search needs)
     (λ c κs. search needs)
+    (λ c. search needs)
     (λ c. search needs)
     (λ c. search needs)
     (λ c. search needs)

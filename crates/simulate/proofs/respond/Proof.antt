@@ -1,10 +1,9 @@
 use native.Mathlib.Omega.{arith}
-use native.Mathlib.Nat.{add-zero}
 use Rattle.model.specs.Simulation.{powerUp}
 use Rattle.model.proofs.ThreeValued.{powerUp-three}
 use Rattle.run.proofs.Laws.{runnable, length-powerUp}
 use Rattle.faults.proofs.Laws.{blank-zeros}
-use Rattle.simulate.proofs.Laws.{rows-plain}
+use Rattle.simulate.proofs.Laws.{responses-plain}
 use borrow.Author.Needs.{needs}
 use Rattle.simulate.proofs.respond.Statement.{statement}
 use Rattle.simulate.proofs.respond.Tie as tie
@@ -19,11 +18,11 @@ tabled c = c .before .before .before .before .before
 abbrev given : tie.After-state → tie.After-give-only
 given c = c .before .before .before
 
-abbrev powered : tie.After-write-rows-arg → tie.After-state2
-powered c = c .before .before .before .before .before .before .before .before
+abbrev powered : tie.After-none → tie.After-state2
+powered c = c .before .before .before .before .before .before .before .before .before .before
 
-abbrev ran : tie.After-slice-known2 → tie.After-write-rows
-ran c = c .before .before .before .before
+abbrev ran : tie.After-none2 → tie.After-write-run
+ran c = c .before .before .before .before .before .before
 
 list-tables-requires : tie.Need-list-tables-requires
 list-tables-requires c κs =
@@ -41,17 +40,18 @@ give-only-requires c κs =
           (omega (arith, fault .line, valid .circuit .lines), omega (arith, fault .pin, valid .circuit .few _ (fault .line)), omega (arith, fault .value))),
     )
 
-write-rows-requires : tie.Need-write-rows-requires
-write-rows-requires c κs =
+write-run-requires : tie.Need-write-run-requires
+write-run-requires c κs =
     let power = powered c in
     let give = given (power .before .before) in
     let tables = tabled (give .before) in
     let pre = start (tables .before) .pre in
     let masks = power .before .before .before in (
-      runnable (pre .0) (pre .1) (tables .list-tables .ensures) (omega (arith, masks .before .hits2 .given)) (omega (arith, masks .masks2 .given)) (omega arith) (omega (arith, power .state2 .given)),
+      runnable (pre .0) (pre .1) (tables .list-tables .ensures) (omega (arith, masks .before .hits2 .given)) (omega (arith, masks .masks2 .given)) (omega arith) (omega arith) (omega (arith, power .state2 .given)),
       omega arith,
       omega arith,
-      rw add-zero (pre .2),
+      pre .2,
+      omega arith,
     )
 
 returns : tie.Need-returns
@@ -60,8 +60,8 @@ returns c =
     let give = given (power .before .before) in
     let begin = start (tabled (give .before) .before) in
     let cs = begin .args .c .now in
-    rw (← (rows-plain cs (begin .args .t .now) (begin .args .fs .now)))
-    (ran c .write-rows .ensures _ (powerUp cs) (give .give-only .ensures) (power .before .power-up .ensures 0) (length-powerUp cs) (powerUp-three cs))
+    rw (← (responses-plain cs (begin .args .t .now) (begin .args .fs .now)))
+    (ran c .write-run .ensures _ (powerUp cs) (give .give-only .ensures) (power .before .power-up .ensures 0) (length-powerUp cs) (powerUp-three cs) .0)
 
 pub respond-spec : {M : Type 1} → statement M
 respond-spec =
@@ -83,6 +83,8 @@ respond-spec =
     (λ c. search needs)
     (λ c. search needs)
     (λ c. search needs)
-    write-rows-requires
+    (λ c. search needs)
+    (λ c. search needs)
+    write-run-requires
     (λ c. search needs)
     returns)

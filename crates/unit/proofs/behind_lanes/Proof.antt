@@ -33,29 +33,29 @@ bit-at c = let pre = start (bit c .before) .pre in state-place _ _ (pre .3) _ _ 
 shared-slice-read-wide16 : tie.Need-shared-slice-read-wide16
 shared-slice-read-wide16 c = inside (start (c .before .before))
 
-shared-slice-read-all : tie.Need-shared-slice-read-all
-shared-slice-read-all c = omega (arith, input-at (c .before) .1, start (input (c .before) .before) .pre .7)
-
 shared-slice-read-wide16-2 : tie.Need-shared-slice-read-wide16-2
 shared-slice-read-wide16-2 c = inside (start (c .before .before))
 
 read-requires : tie.Need-read-requires
-read-requires c κs = omega (arith, bit-at c .1, start (bit c .before) .pre .8)
+read-requires c κs = omega (arith, input-at c .1, start (input c .before) .pre .7)
+
+read-requires-2 : tie.Need-read-requires-2
+read-requires-2 c κs = omega (arith, bit-at c .1, start (bit c .before) .pre .8)
 
 returns : tie.Need-returns
-returns c = λ t f st vs l s ls es h eh.
-    let at = c .before .before in
+returns c = λ t f ins st vs s li ei ls es h eh.
+    let at = c .before in
     let pre = start (input at .before) .pre in
-    behind-input t _ _ _ f _ st vs _ _ (sym (pre .2) ∙ input at .match .keys1) (input-at at .0) (omega (arith, input-at at .1, pre .7)) (c .all .ensures t l)
+    behind-input t _ _ _ f ins st vs _ _ (sym (pre .2) ∙ input at .match .keys1) (input-at at .0) (lane-read t _ ins _ _ _ (c .read .ensures) refl li (omega (arith, ei, input-at at .1)))
 
 returns-2 : tie.Need-returns-2
-returns-2 c = λ t f st vs l s ls es h eh.
+returns-2 c = λ t f ins st vs s li ei ls es h eh.
     let at = c .before in
     let pre = start (bit at .before) .pre in
-    behind-state t _ _ _ f _ st vs _ _ (sym (pre .2) ∙ bit at .match .keys2) (bit-at at .0) (lane-read t _ st _ _ _ (c .read .ensures) refl ls (omega (arith, es, bit-at at .1)))
+    behind-state t _ _ _ f ins st vs _ _ (sym (pre .2) ∙ bit at .match .keys2) (bit-at at .0) (lane-read t _ st _ _ _ (c .read2 .ensures) refl ls (omega (arith, es, bit-at at .1)))
 
 returns-3 : tie.Need-returns-3
-returns-3 c = λ t f st vs l s ls es h eh. behind-gate t _ _ _ f _ st vs _ _ (start (c .before .before) .pre .2) (omega arith) (c .any-gate .ensures t f vs s h (omega arith))
+returns-3 c = λ t f ins st vs s li ei ls es h eh. behind-gate t _ _ _ f ins st vs _ _ (start (c .before .before) .pre .2) (omega arith) (c .any-gate .ensures t f vs s h (omega arith))
 
 pub behind-lanes-spec : {M : Type 1} → statement M
 behind-lanes-spec =
@@ -65,13 +65,12 @@ behind-lanes-spec =
     (λ c. omega (arith, inside (start (c .before)), start (c .before) .pre .0 .lines, start (c .before) .pre .1))
     shared-slice-read-wide16
     (λ c κs. tt)
-    shared-slice-read-all
-    (λ c κs. tt)
+    read-requires
     (λ c. search needs)
     (λ c. omega (arith, inside (start (c .before)), start (c .before) .pre .0 .lines, start (c .before) .pre .1))
     shared-slice-read-wide16-2
     (λ c κs. tt)
-    read-requires
+    read-requires-2
     (λ c κs. search needs)
     returns
     returns-2

@@ -4,7 +4,7 @@ use mathlib.Core.List.{List}
 use Prim.Native.Nat.{ℕ, _+_, _-_, _≤_}
 use native.Mathlib.Omega.{arith}
 use lib.ListN.{length}
-use Rattle.model.specs.Inputs.{F, Fault}
+use Rattle.model.specs.Inputs.{I, F, Fault}
 use Rattle.model.specs.Simulation.{valuesBelow}
 use Rattle.model.proofs.Runs.{length-valuesBelow}
 use Rattle.lanes.specs.Lane.{Room, Lane}
@@ -17,7 +17,7 @@ use Rattle.unit.proofs.simulate_unit.Tie as tie
 abbrev Inv-loop : tie.InvT-loop
 Inv-loop c pins lines inputs state hits masks words₀ n₀ words n =
     (n ≤ lines) × (length words ≡ length words₀)
-    × ((t : ℕ) (f : Fault) (st : List ℕ) → Stuck t hits masks f → Lane t state st → length st ≡ F c → Lane t words (valuesBelow c f inputs st n))
+    × ((t : ℕ) (f : Fault) (ins st : List ℕ) → Stuck t hits masks f → Lane t inputs ins → length ins ≡ I c → Lane t state st → length st ≡ F c → Lane t words (valuesBelow c f ins st n))
 
 abbrev μ-loop : tie.MeasureT-loop
 μ-loop c pins lines inputs state hits masks words₀ n₀ words n = lines - n
@@ -42,7 +42,7 @@ room : (c : tie.In-loop Inv-loop μ-loop) → Room (c .before .loop .n + 1) (c .
 room c = omega (arith, c .loop-test .taken, start (c .before) .pre .5, c .before .loop .inv .1)
 
 loop-holds : tie.Need-loop-holds Inv-loop μ-loop
-loop-holds c = (omega arith, refl, λ t f st s l e. values-none _ f _ st t _)
+loop-holds c = (omega arith, refl, λ t f ins st s li ei l e. values-none _ f ins st t _)
 
 field-requires : tie.Need-field-requires Inv-loop μ-loop
 field-requires c κs = let pre = start (c .before) .pre in (omega (arith, c .loop-test .taken, pre .0 .size, pre .2), omega arith)
@@ -86,15 +86,15 @@ loop-again c =
     let below = in-loop .loop-test .taken in (
       omega (arith, below),
       length-stored _ _ _ _ (store .store .ensures) ∙ loop .inv .1,
-      λ t f st s l e.
-          let lane = loop .inv .2 t f st s l e in
+      λ t f ins st s li ei l e.
+          let lane = loop .inv .2 t f ins st s li ei l e in
           let at = stuck-row t _ _ f _ _ s (omega (arith, start (in-loop .before) .pre .3, below)) (row .wide .ensures .0) in
-          values-more _ f _ st t _ _ _ _ (store .store .ensures) (room in-loop) lane
-          (store .before .seen-at .ensures t f _ _ at (store .before .before .before .behind-lanes .ensures t f st _ (s .lane) at l e lane (length-valuesBelow _ f _ st _))),
+          values-more _ f ins st t _ _ _ _ (store .store .ensures) (room in-loop) lane
+          (store .before .seen-at .ensures t f _ _ at (store .before .before .before .behind-lanes .ensures t f ins st _ at li ei l e lane (length-valuesBelow _ f ins st _))),
     )
 
 returns : tie.Need-returns Inv-loop μ-loop
-returns c = λ t f st s l e. values-all _ f _ st t _ _ (omega (arith, start (c .before) .pre .2)) (c .before .loop .inv .2 t f st s l e)
+returns c = λ t f ins st s li ei l e. values-all _ f ins st t _ _ (omega (arith, start (c .before) .pre .2)) (c .before .loop .inv .2 t f ins st s li ei l e)
 
 pub simulate-unit-spec : {M : Type 1} → statement M
 simulate-unit-spec =
