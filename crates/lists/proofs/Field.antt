@@ -3,10 +3,12 @@ use mathlib.Core.Path.{_≡_, refl, sym, ap, _∙_}
 use Prim.Native.Nat.{ℕ, _+_, _*_, _-_, _/_, _%_, _<_, _≤_}
 use mathlib.Core.List.{List, [], _∷_, _++_, append-nil, append-assoc}
 use lib.ListN.{getD, length, set, take, drop, length-append, length-drop, drop-of-length-le}
-use lib.Seq.{getD-take, getD-drop, take-suc, take-length, take-all, length-take-le, take-at, drop-at, drop-drop}
+use lib.Seq.{getD-take, getD-drop, take-suc, take-length, take-all, length-take-le, take-at, drop-at, drop-drop, sets, sets-eq}
 use native.Mathlib.Numerals.{add-one}
 use native.Mathlib.Omega.{arith}
+use Rattle.lists.specs.Scan.{gather}
 use Rattle.lists.specs.Field.{word16, overwritten}
+use Rattle.lists.proofs.Scan.{length-gather, gather-turn}
 
 pub word-back : (n : ℕ) → n < 65536 → n % 256 + 256 * (n / 256 % 256) ≡ n
 word-back n h = omega arith
@@ -26,6 +28,11 @@ word-of-part area place size i h =
 pub overwritten-none : (old : List ℕ) → overwritten [] old ≡ old
 unfolding overwritten
 overwritten-none old = refl
+
+-- byte by byte
+pub overwritten-sets : (new old : List ℕ) → length new ≤ length old → sets old 0 new ≡ overwritten new old
+unfolding overwritten
+overwritten-sets new old h = let start : 0 + length new ≡ length new = omega arith in rw start at (sets-eq new old 0 (omega arith))
 
 -- one byte more
 pub overwritten-more : (done old : List ℕ) (v : ℕ) → length done < length old → set (overwritten done old) (length done) v ≡ overwritten (done ++ (v ∷ [])) old
@@ -61,3 +68,10 @@ unfolding overwritten
 written-behind done new old area end place a p e =
     rw (drop-of-length-le (drop place area) {i = length area - place} (rw length-drop (omega arith)), append-nil end, e, lent area place, a)
     (rw (take-at done _ place p, drop-at done _ place p, drop-drop, append-assoc done new, length-append, p))
+
+-- the next of the lists g 0, g 1, .. , each as long as the others, is written behind those below n
+pub gathered-behind : (g : ℕ → List ℕ) (size : ℕ) → ((j : ℕ) → length (g j) ≡ size) → (n : ℕ) (old area end : List ℕ) → area ≡ overwritten (gather g n) old
+    → end ≡ overwritten (g n) (take (length area - size * n) (drop (size * n) area))
+    → take (size * n) area ++ (end ++ drop (length area - size * n) (drop (size * n) area)) ≡ overwritten (gather g (n + 1)) old
+gathered-behind g size each n old area end a e =
+    rw (gather-turn g n) (written-behind (gather g n) (g n) old area end (size * n) a (length-gather g size each n) e)

@@ -18,7 +18,7 @@ use Rattle.model.specs.Promises.{InBounds, recordPart}
 use Rattle.lists.proofs.Scan.{length-gather, gather-part}
 use Rattle.lists.proofs.Field.{word-back, byte-of-part, word-of-part}
 
-length-record : (v : Verdict) → length (recordBytes v) ≡ 16
+pub length-record : (v : Verdict) → length (recordBytes v) ≡ 16
 unfolding recordBytes bytes16
 length-record v = refl
 

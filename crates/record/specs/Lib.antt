@@ -1,0 +1,2 @@
+-- What a verdict of the code stands for.
+pub mod Record
