@@ -1,14 +1,15 @@
--- 16-bit fields read back, fields of a part of an area, and an area written from its beginning on.
+-- 16-bit fields read back, fields of a part of an area, an area written from its beginning on, and rows of a table.
 use mathlib.Core.Path.{_≡_, refl, sym, ap, _∙_}
-use Prim.Native.Nat.{ℕ, _+_, _*_, _-_, _/_, _%_, _<_, _≤_}
+use Prim.Native.Nat.{ℕ, suc, _+_, _*_, _-_, _/_, _%_, _<_, _≤_}
 use mathlib.Core.List.{List, [], _∷_, _++_, append-nil, append-assoc}
 use lib.ListN.{getD, length, set, take, drop, length-append, length-drop, drop-of-length-le}
-use lib.Seq.{getD-take, getD-drop, take-suc, take-length, take-all, length-take-le, take-at, drop-at, drop-drop, sets, sets-eq}
+use lib.Seq.{getD-take, getD-drop, take-suc, take-length, take-all, length-take-le, take-at, drop-at, drop-drop, take-append-le, drop-append-le, sets, sets-eq}
 use native.Mathlib.Numerals.{add-one}
 use native.Mathlib.Omega.{arith}
+use native.Mathlib.Nat.{mul-le-mul-left, mul-suc, mul-comm}
 use Rattle.lists.specs.Scan.{gather}
-use Rattle.lists.specs.Field.{word16, overwritten}
-use Rattle.lists.proofs.Scan.{length-gather, gather-turn}
+use Rattle.lists.specs.Field.{word16, overwritten, rowOf, Rows}
+use Rattle.lists.proofs.Scan.{length-gather, gather-part, gather-turn}
 
 pub word-back : (n : ℕ) → n < 65536 → n % 256 + 256 * (n / 256 % 256) ≡ n
 word-back n h = omega arith
@@ -75,3 +76,37 @@ pub gathered-behind : (g : ℕ → List ℕ) (size : ℕ) → ((j : ℕ) → len
     → take (size * n) area ++ (end ++ drop (length area - size * n) (drop (size * n) area)) ≡ overwritten (gather g (n + 1)) old
 gathered-behind g size each n old area end a e =
     rw (gather-turn g n) (written-behind (gather g n) (g n) old area end (size * n) a (length-gather g size each n) e)
+
+-- ---- row u of a table of n rows of one size
+pub row-fits : (size u n : ℕ) → u < n → size * u + size ≤ n * size
+row-fits size u n h =
+    let up : size * suc u ≤ size * n = mul-le-mul-left size h in
+    let turned : size * n ≡ n * size = mul-comm size n in
+    omega (arith, up, turned, mul-suc size u)
+
+-- the part of the table that code lends for it
+pub part-row : (table : List ℕ) (o size u : ℕ) → o ≡ size → take (o * u + o - o * u) (drop (o * u) table) ≡ rowOf size table u
+unfolding rowOf
+part-row table o size u e = let whole : o * u + o - o * u ≡ o = omega arith in rw (whole, e)
+
+pub part-long : (size u : ℕ) (table : List ℕ) → size * u + size ≤ length table → size ≤ length (take (size * u + size - size * u) (drop (size * u) table))
+part-long size u table l = rw (length-take-le (size * u + size - size * u) (drop (size * u) table) (rw length-drop (omega arith))) (omega arith)
+
+pub row-long : (table : List ℕ) (size u n : ℕ) → u < n → n * size ≤ length table → size ≤ length (take (size * u + size - size * u) (drop (size * u) table))
+row-long table size u n h l = part-long size u table (omega (arith, l, row-fits size u n h))
+
+-- a table whose rows are written end to end
+pub rows-written : (row : ℕ → List ℕ) (size count : ℕ) (table old : List ℕ) → ((u : ℕ) → length (row u) ≡ size) → table ≡ overwritten (gather row count) old
+    → Rows size count table row
+unfolding rowOf overwritten
+rows-written row size count table old each e = record {
+  at = λ u h.
+      let all : length (gather row count) ≡ size * count = length-gather row size each count in
+      let fits : size * u + size ≤ count * size = row-fits size u count h in
+      let room : size * u + size ≤ length (gather row count) = omega (arith, mul-comm size count) in
+      let left : size ≤ length (drop (size * u) (gather row count)) = rw length-drop (omega arith) in
+      ap (λ x. take size (drop (size * u) x)) e
+      ∙ ap (take size) (drop-append-le (size * u) (gather row count) _ (omega arith))
+      ∙ take-append-le size (drop (size * u) (gather row count)) _ left
+      ∙ gather-part row size each count u h;
+}

@@ -1,5 +1,6 @@
 -- 16-bit fields, low byte first, bytes written over the beginning of an area, and tables of rows of one size.
-use Prim.Native.Nat.{ℕ, _+_, _*_, _/_, _%_}
+use mathlib.Core.Path.{_≡_}
+use Prim.Native.Nat.{ℕ, _+_, _*_, _/_, _%_, _<_}
 use mathlib.Core.List.{List, [], _∷_, _++_}
 use lib.ListN.{getD, length, take, drop}
 
@@ -18,3 +19,7 @@ overwritten new old = new ++ drop (length new) old
 -- row u of a table
 unfoldable pub rowOf : ℕ → List ℕ → ℕ → List ℕ
 rowOf size table u = take size (drop (size * u) table)
+
+-- the first so many rows of a table
+pub record Rows (size count : ℕ) (table : List ℕ) (row : ℕ → List ℕ) : Type 0 where
+  pub at : (u : ℕ) → u < count → rowOf size table u ≡ row u

@@ -8,10 +8,10 @@ use lib.ListN.{getD, length, take, drop, length-append, length-drop, length-map,
 use lib.Seq.{getD-take, take-length, take-all, take-suc, length-take-le}
 use native.Mathlib.Numerals.{add-one}
 use native.Mathlib.Omega.{arith}
-use native.Mathlib.Nat.{mul-le-mul, mul-le-mul-left, mul-suc, mul-comm}
+use native.Mathlib.Nat.{mul-le-mul}
 use Rattle.lists.specs.Scan.{anyBelow, gather}
-use Rattle.lists.specs.Field.{rowOf}
 use Rattle.lists.proofs.Scan.{All, all-at, select-all, length-select, length-gather, gather-turn, getD-any, anyBelow-more, countBelow-bound}
+use Rattle.lists.proofs.Field.{row-fits}
 use Rattle.lists.proofs.Tests.{and-left, by-test, by-eq}
 use Rattle.model.specs.Inputs.{N, I, F, O, L, isInput, isOutput, flipFlops, outputLines, inputsAt, Fault}
 use Rattle.model.specs.Accepted.{ValidCircuit, ValidTest, ValidInputs, ThreeValued}
@@ -29,14 +29,7 @@ use Rattle.job.specs.declared.Job.{Job}
 use Rattle.unit.specs.Unit.{Stuck, MaskRoom}
 use Rattle.run.specs.Run.{Runnable}
 
--- record u of a table of n records of size i
-pub record-fits : (i u n : ℕ) → u < n → i * u + i ≤ n * i
-record-fits i u n h =
-    let up : i * suc u ≤ i * n = mul-le-mul-left i h in
-    let turned : i * n ≡ n * i = mul-comm i n in
-    omega (arith, up, turned, mul-suc i u)
-
--- its bytes, of a test
+-- record u of a test
 pub part-inputs : (c t : List ℕ) (i u : ℕ) → i ≡ I c → take (i * u + i - i * u) (drop (i * u) t) ≡ inputsAt c t u
 unfolding inputsAt
 part-inputs c t i u e = let size : i * u + i - i * u ≡ i = omega arith in rw (size, e)
@@ -47,18 +40,8 @@ length-inputs c t i u e l = rw (← (part-inputs c t i u e)) (length-take-le (i 
 pub fed-inputs : (c t : List ℕ) (i u : ℕ) → i ≡ I c → i * u + i ≤ length t → inputsAt c t u ≡ take i (take (i * u + i - i * u) (drop (i * u) t))
 fed-inputs c t i u e l = rw (part-inputs c t i u e) (sym (take-all i (inputsAt c t u) (omega (arith, length-inputs c t i u e l))))
 
-pub part-long : (i u : ℕ) (t : List ℕ) → i * u + i ≤ length t → i ≤ length (take (i * u + i - i * u) (drop (i * u) t))
-part-long i u t l = rw (length-take-le (i * u + i - i * u) (drop (i * u) t) (rw length-drop (omega arith))) (omega arith)
-
-pub part-row : (c free : List ℕ) (o u : ℕ) → o ≡ O c → take (o * u + o - o * u) (drop (o * u) free) ≡ rowOf (O c) free u
-unfolding rowOf
-part-row c free o u e = let size : o * u + o - o * u ≡ o = omega arith in rw (size, e)
-
-pub row-long : (free : List ℕ) (o u units : ℕ) → u < units → units * o ≤ length free → o ≤ length (take (o * u + o - o * u) (drop (o * u) free))
-row-long free o u units h l = part-long o u free (omega (arith, l, record-fits o u units h))
-
 test-fits : (c t : List ℕ) (j : Job) (u : ℕ) → JobOf c t j → ValidTest c t → u < j .units → j .inputs * u + j .inputs ≤ length t
-test-fits c t j u o v h = rw (v .whole, ← (o .units), ← (o .inputs)) (record-fits (j .inputs) u (j .units) h)
+test-fits c t j u o v h = rw (v .whole, ← (o .units), ← (o .inputs)) (row-fits (j .inputs) u (j .units) h)
 
 -- an accepted job, with its tables, in arrays of the sizes that every call makes
 pub runnable : {c t fs pins flops outs hits masks feed words state : List ℕ} {least most : ℕ} {j : Job} → ValidInputs c t least most fs → JobOf c t j → Tables c pins flops outs
@@ -114,7 +97,7 @@ row-room c t j size columns u room w o e few l h =
     let all : j .units * size ≤ room = rw (o .units, e) l in
     let early : u ≤ 1024 = omega (arith, h, o .units, w .most) in
     let small : size ≤ 256 = omega arith in
-    record { fits = omega (arith, all, record-fits size u (j .units) h); below = omega (arith, mul-le-mul small early) }
+    record { fits = omega (arith, all, row-fits size u (j .units) h); below = omega (arith, mul-le-mul small early) }
 
 -- ---- a row put into lanes
 -- place m once place i was stored

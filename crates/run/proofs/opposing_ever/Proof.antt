@@ -8,13 +8,14 @@ use native.Mathlib.Omega.{arith}
 use native.Mathlib.Nat.{mul-le-mul}
 use Rattle.lists.specs.Scan.{anyBelow}
 use Rattle.lists.specs.Field.{rowOf}
+use Rattle.lists.proofs.Field.{row-fits, part-row, row-long}
 use Rattle.model.specs.Inputs.{F, O, inputsAt, Fault}
 use Rattle.model.specs.Values.{someOppose}
 use Rattle.model.specs.Simulation.{lineValues, outputs, stateAt, outputsAt, valuesAt}
 use Rattle.model.proofs.Runs.{length-lineValues}
 use Rattle.lanes.specs.Lane.{bit, Lane}
 use Rattle.unit.specs.Unit.{Stuck}
-use Rattle.run.proofs.Laws.{record-fits, part-row, row-long, values-asked, next-asked, ever-none, ever-more, ever-stop, ever-all, state-turn, length-state}
+use Rattle.run.proofs.Laws.{values-asked, next-asked, ever-none, ever-more, ever-stop, ever-all, state-turn, length-state}
 use Rattle.run.proofs.opposing_ever.Statement.{statement}
 use Rattle.run.proofs.opposing_ever.Tie as tie
 
@@ -79,7 +80,7 @@ found-more c lane f st s l e =
     let before = loop .inv .4 lane f st s l e in
     let holds = values .values-at .ensures lane f _ s (before .0) (length-state cs ts f st (loop .u) e) in
     let opposing : bit lane (c .opposing .result) ≡ someOppose (rowOf (O cs) (begin .args .free .now) (loop .u)) (outputs cs f (lineValues cs f (inputsAt cs ts (loop .u)) (stateAt cs ts f st (loop .u)))) =
-    rw (← (part-row cs (begin .args .free .now) (begin .args .job .outputs) (loop .u) (begin .pre .0 .sizes .outputs))) (c .opposing .ensures lane f _ s holds (length-lineValues cs f _ _)) in
+    rw (← (part-row (begin .args .free .now) (begin .args .job .outputs) (O cs) (loop .u) (begin .pre .0 .sizes .outputs))) (c .opposing .ensures lane f _ s holds (length-lineValues cs f _ _)) in
     ever-more lane _ _ _ _ (before .1) opposing
 
 loop-holds : tie.Need-loop-holds Inv-loop μ-loop
@@ -103,7 +104,7 @@ part-opposing-end : tie.Need-part-opposing-end Inv-loop μ-loop
 part-opposing-end c =
     let inside = in-loop (valued (worded c)) in
     let begin = start (inside .before) in
-    omega (arith, all begin, record-fits (begin .args .job .outputs) (inside .before .loop .u) (begin .args .units) (inside .loop-test .taken))
+    omega (arith, all begin, row-fits (begin .args .job .outputs) (inside .before .loop .u) (begin .args .units) (inside .loop-test .taken))
 
 opposing-requires : tie.Need-opposing-requires Inv-loop μ-loop
 opposing-requires c κs =

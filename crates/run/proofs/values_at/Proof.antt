@@ -2,7 +2,8 @@ use mathlib.Core.Path.{sym, _∙_}
 use mathlib.Core.Bool.{true≢false}
 use native.Mathlib.Omega.{arith}
 use Rattle.lanes.proofs.Bits.{bit-all}
-use Rattle.run.proofs.Laws.{fed-inputs, part-long, length-inputs}
+use Rattle.lists.proofs.Field.{part-long}
+use Rattle.run.proofs.Laws.{fed-inputs, length-inputs}
 use borrow.Author.Needs.{needs}
 use Rattle.run.proofs.values_at.Statement.{statement}
 use Rattle.run.proofs.values_at.Tie as tie
