@@ -206,13 +206,16 @@ validInputs c t least most fs e =
     }
 
 -- one of the faults
-pub faultJob : {c t fs : List ℕ} {least most : ℕ} → ValidInputs c t least most fs → (j : ℕ) → j < faultCount fs → FaultJob c t (faultAt fs j)
-faultJob {t = t} valid j h = record {
-  circuit = valid .circuit;
-  test = total-test t (valid .test .bytes);
-  units = valid .test .some;
-  value = bit-total _ (omega (arith, valid .fault j h .value));
+pub validJob : {c t : List ℕ} {f : Fault} → ValidCircuit c → ValidTest c t → ValidFault c f → FaultJob c t f
+validJob {t = t} circuit test fault = record {
+  circuit = circuit;
+  test = total-test t (test .bytes);
+  units = test .some;
+  value = bit-total _ (omega (arith, fault .value));
 }
+
+pub faultJob : {c t fs : List ℕ} {least most : ℕ} → ValidInputs c t least most fs → (j : ℕ) → j < faultCount fs → FaultJob c t (faultAt fs j)
+faultJob valid j h = validJob (valid .circuit) (valid .test) (valid .fault j h)
 
 -- ---- plan, k and the two areas
 pub plan-fits : (p : List ℕ) → row11 p ≡ none → (length p ≡ 4 * planCount p) × (planCount p ≤ 4096)

@@ -20,5 +20,6 @@ pub mod Best
 pub mod Choose
 pub mod ThreeValued
 pub mod Open
+pub mod Pending
 pub mod Apart
 pub mod Theorems

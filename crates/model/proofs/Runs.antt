@@ -77,7 +77,7 @@ pub length-lineValues : (c : List ℕ) (f : Fault) (inputs state : List ℕ) →
 unfolding lineValues
 length-lineValues c f inputs state = length-valuesBelow c f inputs state (N c)
 
-map-total : (g : ℕ → ℕ) (P : ℕ → Type 0) (ns : List ℕ) → All P ns → ((n : ℕ) → P n → Total (g n)) → TotalRow (map g ns)
+pub map-total : (g : ℕ → ℕ) (P : ℕ → Type 0) (ns : List ℕ) → All P ns → ((n : ℕ) → P n → Total (g n)) → TotalRow (map g ns)
 unfolding All TotalRow
 map-total g P [] h e = tt
 map-total g P (n ∷ ns) h e = (e n (h .0), map-total g P ns (h .1) e)

@@ -92,7 +92,7 @@ module _ (c t : List ℕ) (f : Fault) (a : FaultJob c t f) where
         let ih : TotalRow (stateAt c t f st u) × (length (stateAt c t f st u) ≡ F c) = state-total u (omega arith) in
         settled c (a .circuit) f (a .value) (inputsAt c t u) (inputs-total u) (length-inputs u h) _ (ih .0) (ih .1)
 
-    values-total : (u : ℕ) → u < L c t → TotalRow (valuesAt c t f st u) × (length (valuesAt c t f st u) ≡ N c)
+    pub values-total : (u : ℕ) → u < L c t → TotalRow (valuesAt c t f st u) × (length (valuesAt c t f st u) ≡ N c)
     unfolding valuesAt
     values-total u h =
         let ih : TotalRow (stateAt c t f st u) × (length (stateAt c t f st u) ≡ F c) = state-total u (omega arith) in (
@@ -301,11 +301,11 @@ module _ (c t : List ℕ) (f : Fault) (a : FaultJob c t f) where
     | no g ↦ (let q : v ≡ u = omega arith in rw q (omega arith))
   ]
 
-  nout-zero : (v : ℕ) → nout c t f 0 ≡ 0 → v < L c t → countOpen (freeOutputs c t v) (plainOutputs c t f v) ≡ 0
+  pub nout-zero : (v : ℕ) → nout c t f 0 ≡ 0 → v < L c t → countOpen (freeOutputs c t v) (plainOutputs c t f v) ≡ 0
   unfolding nout
   nout-zero v e h = openPlaces-zero (L c t - 0) 0 v e (omega arith) (omega arith)
 
-  nsv-start : nsv c t f 0 ≡ F c
+  pub nsv-start : nsv c t f 0 ≡ F c
   unfolding nsv plainState stateAt powerUp
   nsv-start = countX-unknown (F c)
 
