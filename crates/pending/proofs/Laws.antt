@@ -1,0 +1,65 @@
+-- What one place, and one unit, adds.
+use mathlib.Core.Path.{_≡_, refl, sym, ap, _∙_}
+use Prim.Native.Nat.{ℕ, zero, suc, _+_, _*_, _-_, _≤_, _<_}
+use mathlib.Core.Bool.{cond, _&&_}
+use mathlib.Core.List.{List, [], _∷_}
+use lib.ListN.{getD, length, set, take, drop}
+use lib.Seq.{getD-set-same, getD-set-other, take-take}
+use lib.Dec.{eqb}
+use native.Mathlib.Omega.{arith}
+use Rattle.lists.specs.Field.{rowOf}
+use Rattle.lists.proofs.Tests.{by-eq}
+use Rattle.model.specs.Inputs.{Fault}
+use Rattle.model.specs.Values.{X, isSpecified}
+use Rattle.model.specs.Simulation.{plainOutputs, freeOutputs}
+use Rattle.model.specs.Expansion.{countOpen, nout}
+use Rattle.model.proofs.Pending.{nout-step, nout-end}
+use Rattle.pending.specs.Pending.{Responses}
+
+-- ---- the loop over the places
+pub open-none : (free row : List ℕ) → 0 ≡ countOpen (take 0 free) (take 0 row)
+unfolding countOpen
+open-none free row = refl
+
+pub open-more : (free row : List ℕ) (o places here : ℕ) → o < length free → o < length row → here ≡ cond (isSpecified (getD free o 0) && eqb (getD row o 0) X) 1 0
+    → places ≡ countOpen (take o free) (take o row) → places + here ≡ countOpen (take (o + 1) free) (take (o + 1) row)
+unfolding countOpen
+open-more [] row o places here h k e p = absurd (let z : ⊥ = omega arith in z)
+open-more (a ∷ free) [] o places here h k e p = absurd (let z : ⊥ = omega arith in z)
+open-more (a ∷ free) (b ∷ row) zero places here h k e p = rw (e, p) (omega arith)
+open-more (a ∷ free) (b ∷ row) (suc o) places here h k e p =
+    let next : suc o + 1 ≡ suc (o + 1) = omega arith in
+    let tail : countOpen (take o free) (take o row) + here ≡ countOpen (take (o + 1) free) (take (o + 1) row) =
+    open-more free row o _ here (omega arith) (omega arith) e refl in
+    rw next (omega (arith, p, tail))
+
+-- ---- the loop over the units
+-- the row of unit u, as it is lent
+row-of : (outputs : ℕ) (table : List ℕ) (u : ℕ) → take outputs (take (outputs * u + outputs - outputs * u) (drop (outputs * u) table)) ≡ rowOf outputs table u
+unfolding rowOf
+row-of outputs table u = take-take outputs (outputs * u + outputs - outputs * u) (drop (outputs * u) table) (omega arith)
+
+-- Nout of unit u, and in the table that of every unit from u on
+pub record From (units : ℕ) (table : List ℕ) (u later : ℕ) (c t : List ℕ) (f : Fault) : Type 0 where
+  pub here : later ≡ nout c t f u
+  pub at : (v : ℕ) → u ≤ v → v ≤ units → getD table v 0 ≡ nout c t f v
+
+module _ {c t : List ℕ} {f : Fault} (units outputs : ℕ) (free faulty : List ℕ) (given : Responses units outputs free faulty c t f) where
+  pub from-end : (table : List ℕ) → units < length table → From units (set table units 0) units 0 c t f
+  from-end table h =
+      let none : nout c t f units ≡ 0 = ap (nout c t f) (given .all) ∙ nout-end c t f in
+      record { here = sym none; at = λ v p q. let e : v ≡ units = omega arith in rw e (getD-set-same table units 0 0 h ∙ sym none) }
+
+  pub from-more : (table : List ℕ) (u next later added : ℕ) → next ≡ suc u → u < units → u < length table → From units table next later c t f
+      → added ≡ countOpen (take outputs (take (outputs * u + outputs - outputs * u) (drop (outputs * u) free))) (take outputs (take (outputs * u + outputs - outputs * u) (drop (outputs * u) faulty)))
+      → From units (set table u (later + added)) u (later + added) c t f
+  from-more table u next later added n h room done e =
+      let rows : added ≡ countOpen (freeOutputs c t u) (plainOutputs c t f u) = e ∙ rw (row-of outputs free u, row-of outputs faulty u, given .freeRows .at u h, given .faultyRows .at u h) in
+      let before : later ≡ nout c t f (suc u) = rw (← n) (done .here) in
+      let all : later + added ≡ nout c t f u = omega (arith, nout-step c t f u (rw (← (given .all)) h)) in
+      record {
+        here = all;
+        at = λ v p q. by-eq v u
+            (λ e. rw e (getD-set-same table u (later + added) 0 room ∙ all))
+            (λ e. getD-set-other table u v (later + added) 0 e ∙ done .at v (omega arith) q);
+      }

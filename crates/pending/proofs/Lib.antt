@@ -1,0 +1,2 @@
+-- Laws of open places.
+pub mod Laws

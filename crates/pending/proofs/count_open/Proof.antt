@@ -1,0 +1,60 @@
+-- The places counted are the open ones of the first o.
+use mathlib.Core.Path.{_≡_, ap, _∙_}
+use mathlib.Core.Bool.{cond}
+use Prim.Native.Nat.{_-_, _≤_}
+use lib.ListN.{take}
+use native.Mathlib.Omega.{arith}
+use Rattle.model.specs.Expansion.{countOpen}
+use Rattle.pending.proofs.Laws.{open-none, open-more}
+use Rattle.pending.proofs.count_open.Statement.{statement}
+use Rattle.pending.proofs.count_open.Tie as tie
+
+abbrev Inv-loop : tie.InvT-loop
+Inv-loop free row count places₀ o₀ places o = (o ≤ count) × (places ≤ o) × (places ≡ countOpen (take o free) (take o row))
+
+abbrev μ-loop : tie.MeasureT-loop
+μ-loop free row count places₀ o₀ places o = count - o
+
+-- places
+abbrev start : tie.At-loop Inv-loop μ-loop → tie.Start Inv-loop μ-loop
+start l = l .before .before .before
+
+abbrev turn : tie.After-both Inv-loop μ-loop → tie.In-loop Inv-loop μ-loop
+turn c = c .before .before .before
+
+loop-holds : tie.Need-loop-holds Inv-loop μ-loop
+loop-holds c = (omega arith, omega arith, open-none (c .before .before .args .free .now) (c .before .before .args .row .now))
+
+loop-again : tie.Need-loop-again Inv-loop μ-loop
+loop-again c =
+    let inside = turn (c .before) in
+    let loop = inside .before .loop in
+    let begin = start (inside .before) in (
+      omega arith,
+      omega arith,
+      open-more (begin .args .free .now) (begin .args .row .now) (loop .o) (loop .places) _ (omega arith) (omega arith)
+          (c .one-if .ensures .0 ∙ ap (λ b. cond b 1 0) (c .before .both .ensures)) (loop .inv .2),
+    )
+
+returns : tie.Need-returns Inv-loop μ-loop
+returns c =
+    let loop = c .before .loop in
+    let end : loop .o ≡ start (c .before) .args .count = omega arith in
+    (rw (← end) (loop .inv .2), omega arith)
+
+pub count-open-spec : {M : Type 1} → statement M
+count-open-spec =
+    tie.close
+    (tie.spec
+    Inv-loop
+    μ-loop
+    loop-holds
+    (λ c. omega arith)
+    (λ c. omega arith)
+    (λ c κs. tt)
+    (λ c κs. tt)
+    (λ c. omega arith)
+    (λ c. omega arith)
+    (λ c. omega arith)
+    loop-again
+    returns)

@@ -1,0 +1,19 @@
+-- What is outstanding of a fault at every time unit.
+use mathlib.Core.Path.{_≡_}
+use Prim.Native.Nat.{ℕ, _≤_}
+use mathlib.Core.List.{List}
+use lib.ListN.{getD}
+use Rattle.lists.specs.Field.{Rows}
+use Rattle.model.specs.Inputs.{L, Fault}
+use Rattle.model.specs.Simulation.{plainOutputs, freeOutputs}
+use Rattle.model.specs.Expansion.{nout}
+
+-- tables of what plain simulation shows, without the fault and with it, a row a unit
+pub record Responses (units outputs : ℕ) (free faulty : List ℕ) (c t : List ℕ) (f : Fault) : Type 0 where
+  pub all : units ≡ L c t
+  pub freeRows : Rows outputs units free (freeOutputs c t)
+  pub faultyRows : Rows outputs units faulty (plainOutputs c t f)
+
+-- a table of Nout(u), for u from 0 to L
+pub record Outstanding (units outputs : ℕ) (free faulty table : List ℕ) : Type 0 where
+  pub at : (c t : List ℕ) (f : Fault) → Responses units outputs free faulty c t f → (u : ℕ) → u ≤ units → getD table u 0 ≡ nout c t f u
