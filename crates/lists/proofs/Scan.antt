@@ -1,15 +1,17 @@
 -- What the scans tell: a search that finds, and one that finds nothing; counts; the lists that scans make.
 use mathlib.Core.Path.{_≡_, refl, ap, _∙_}
-use Prim.Native.Nat.{ℕ, zero, suc, _+_, _*_, _≤_, _<_}
-use mathlib.Core.Bool.{Bool, true, false, cond}
+use Prim.Native.Nat.{ℕ, zero, suc, _+_, _*_, _-_, _≤_, _<_}
+use mathlib.Core.Bool.{Bool, true, false, cond, _&&_}
 use mathlib.Core.List.{List, [], _∷_, _++_, map}
 use mathlib.Core.Option.{Option, none, some, Option·getD, orElse, Option·some-injective, Option·none-ne-some, Option·some-ne-none}
 use mathlib.Mathlib.Data.Option.Basic.{orElse-eq-none}
 use lib.ListN.{getD, length, take, drop, length-append, length-drop}
 use lib.Seq.{take-all, drop-at, drop-append-le, take-append-le}
+use lib.Dec.{ltb}
+use borrow.Author.Tests.{lt-ltb, le-ltb}
 use native.Mathlib.Omega.{arith}
 use native.Mathlib.Decide.{decLe}
-use native.Mathlib.Nat.{mul-le-mul-left, mul-suc}
+use native.Mathlib.Nat.{add-zero, add-suc, mul-le-mul-left, mul-suc}
 use native.Mathlib.Numerals.{add-one}
 use Rattle.lists.specs.Scan.{_else_, first, pairWith, firstPair, firstAnswer, anyBelow, countBelow, select, tabulate, gather}
 use Rattle.lists.proofs.Tests.{or-left-false, or-right-false, cond-cases, clash, is-true}
@@ -34,6 +36,11 @@ pub else-skips : {A : Type 0} (a b : Option A) → a ≡ none → a else b ≡ b
 unfolding orElse
 else-skips none b e = refl
 else-skips (some a) b e = absurd (Option·some-ne-none a e)
+
+else-none : {A : Type 0} (a : Option A) → a else none ≡ a
+unfolding orElse
+else-none none = refl
+else-none (some a) = refl
 
 pub given-cases {ℓ} : {A : Type 0} (P : A → Type ℓ) (o : Option A) (a : A) → ((m : A) → o ≡ some m → P m) → (o ≡ none → P a) → P (Option·getD o a)
 given-cases P none a f g = g refl
@@ -80,6 +87,73 @@ first-some P (suc n) m e =
     (λ z q.
     let d : (P n ≡ true) × (n ≡ m) = cond-some (P n) n m q in
     record { below = omega arith; passes = rw (← (d .1)) (d .0); fails = λ j h. first-none P n j z (omega arith) })
+
+pub first-fails : (P : ℕ → Bool) (n : ℕ) → ((m : ℕ) → m < n → P m ≡ false) → first P n ≡ none
+unfolding first orElse
+first-fails P zero h = refl
+first-fails P (suc n) h = rw (first-fails P n (λ m l. h m (omega arith)), h n (omega arith))
+
+pub first-lowest : (P : ℕ → Bool) (n m : ℕ) → Lowest P n m → first P n ≡ some m
+first-lowest P n m l = by-found (first P n) refl
+  where
+    by-found : (found : Option ℕ) → first P n ≡ found → found ≡ some m
+    by-found none e = clash (P m) (l .passes) (first-none P n m e (l .below))
+    by-found (some j) e =
+        let k : Lowest P n j = first-some P n j e in
+        elim (decLe (suc j) m) [
+          | yes g ↦ clash (P j) (k .passes) (l .fails j g)
+          | no g ↦ elim (decLe (suc m) j) [
+            | yes q ↦ clash (P m) (l .passes) (k .fails m q)
+            | no q ↦ ap some (let r : j ≡ m = omega arith in r)
+          ]
+        ]
+
+pub first-same : (P R : ℕ → Bool) (n : ℕ) → ((m : ℕ) → m < n → P m ≡ R m) → first P n ≡ first R n
+unfolding first
+first-same P R zero e = refl
+first-same P R (suc n) e = rw (first-same P R n (λ m h. e m (omega arith)), e n (omega arith))
+
+-- the lowest number that passes, or n: below n it is the first, and n says that there is none
+pub given-first : (P : ℕ → Bool) (n r : ℕ) → r ≡ Option·getD (first P n) n → r < n → first P n ≡ some r
+given-first P n r e h =
+    given-cases (λ m. r ≡ m → first P n ≡ some r) (first P n) n (λ m f q. rw q f) (λ _ q. absurd (let z : ⊥ = omega arith in z)) e
+
+pub given-none : (P : ℕ → Bool) (n r : ℕ) → r ≡ Option·getD (first P n) n → n ≤ r → first P n ≡ none
+given-none P n r e h =
+    given-cases (λ m. r ≡ m → first P n ≡ none) (first P n) n
+    (λ m f q. let l : m < n = first-some P n m f .below in absurd (let z : ⊥ = omega arith in z)) (λ f _. f) e
+
+-- a test that only numbers below d pass
+pub first-part : (P Q : ℕ → Bool) (d n : ℕ) → d ≤ n → ((m : ℕ) → m < n → Q m ≡ (ltb m d && P m)) → first Q n ≡ first P d
+unfolding first orElse
+first-part P Q d zero l e = let z : d ≡ 0 = omega arith in rw z
+first-part P Q d (suc n) l e = elim (decLe d n) [
+  | yes g ↦ rw (e n (omega arith), le-ltb n d g) (else-none (first Q n) ∙ first-part P Q d n g (λ m h. e m (omega arith)))
+  | no g ↦ (let z : d ≡ suc n = omega arith in rw z (first-same Q P (suc n) (λ m h. e m h ∙ rw (lt-ltb m d (omega arith)))))
+]
+
+-- the numbers below a fail, and of those from a on the first that passes is known
+module _ (P : ℕ → Bool) (a b : ℕ) (e : first P a ≡ none) where
+  from : (j : ℕ) → a ≤ j → P (a + (j - a)) ≡ false → P j ≡ false
+  from j h q = let r : a + (j - a) ≡ j = omega arith in rw r at q
+
+  pub first-none-more : first (λ t. P (a + t)) b ≡ none → first P (a + b) ≡ none
+  first-none-more f = first-fails P (a + b) (λ j h. elim (decLe (suc j) a) [
+    | yes g ↦ first-none P a j e g
+    | no g ↦ from j (omega arith) (first-none (λ t. P (a + t)) b (j - a) f (omega arith))
+  ])
+
+  pub first-some-more : (n t : ℕ) → first (λ t. P (a + t)) b ≡ some t → a + t < n → first P n ≡ some (a + t)
+  first-some-more n t f h =
+      let l : Lowest (λ t. P (a + t)) b t = first-some (λ t. P (a + t)) b t f in
+      first-lowest P n (a + t) record {
+        below = h;
+        passes = l .passes;
+        fails = λ j k. elim (decLe (suc j) a) [
+          | yes g ↦ first-none P a j e g
+          | no g ↦ from j (omega arith) (l .fails (j - a) (omega arith))
+        ];
+      }
 
 -- ---- the first pair
 pairWith-some : (u : ℕ) (o : Option ℕ) (q : ℕ × ℕ) → pairWith u o ≡ some q → (o ≡ some (q .1)) × (u ≡ q .0)
@@ -157,6 +231,25 @@ countBelow-bound P zero = omega arith
 countBelow-bound P (suc n) =
     let ih : countBelow P n ≤ n = countBelow-bound P n in
     cond-cases (λ (x : ℕ). countBelow P n + x ≤ suc n) (P n) 1 0 (λ _. omega arith) (λ _. omega arith)
+
+pub countBelow-same : (P R : ℕ → Bool) (n : ℕ) → ((m : ℕ) → m < n → P m ≡ R m) → countBelow P n ≡ countBelow R n
+unfolding countBelow
+countBelow-same P R zero e = refl
+countBelow-same P R (suc n) e = rw (countBelow-same P R n (λ m h. e m (omega arith)), e n (omega arith))
+
+pub countBelow-part : (P Q : ℕ → Bool) (d n : ℕ) → d ≤ n → ((m : ℕ) → m < n → Q m ≡ (ltb m d && P m)) → countBelow Q n ≡ countBelow P d
+unfolding countBelow
+countBelow-part P Q d zero l e = let z : d ≡ 0 = omega arith in rw z
+countBelow-part P Q d (suc n) l e = elim (decLe d n) [
+  | yes g ↦ rw (e n (omega arith), le-ltb n d g) (omega (arith, countBelow-part P Q d n g (λ m h. e m (omega arith))))
+  | no g ↦ (let z : d ≡ suc n = omega arith in rw z (countBelow-same Q P (suc n) (λ m h. e m h ∙ rw (lt-ltb m d (omega arith)))))
+]
+
+-- those below a, and those from a on
+pub countBelow-add : (P : ℕ → Bool) (a b : ℕ) → countBelow P (a + b) ≡ countBelow P a + countBelow (λ t. P (a + t)) b
+unfolding countBelow
+countBelow-add P a zero = omega (arith, ap (countBelow P) (add-zero a))
+countBelow-add P a (suc b) = rw (add-suc, countBelow-add P a b) (omega arith)
 
 -- ---- the numbers that pass
 unfoldable pub All : (ℕ → Type 0) → List ℕ → Type 0
