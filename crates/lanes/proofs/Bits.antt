@@ -1,11 +1,11 @@
--- The bits of AND, OR and XOR of words, and of the words with all bits equal.
+-- The bits of AND, OR and XOR of words, and of words that are written out.
 use mathlib.Core.Path.{_≡_, refl, ap, _∙_}
 use mathlib.Core.Bool.{Bool, true, false, _&&_, _||_, not}
-use Prim.Native.Nat.{ℕ, zero, suc, _+_, _*_, _/_, _%_, _^_, _<_, min, max}
+use Prim.Native.Nat.{ℕ, zero, suc, _+_, _-_, _*_, _/_, _%_, _^_, _<_, min, max}
 use native.Mathlib.Omega.{arith}
 use native.Mathlib.Decide.{decLe}
 use native.Mathlib.Nat.{zero-div}
-use lib.Dec.{eqb}
+use lib.Dec.{eqb, ltb}
 use Rattle.lists.proofs.Tests.{and-left, and-right}
 use lib.Bits.{bitAnd, bitOr, bitXor, differ, and-shr, or-shr, xor-shr, and-step, or-step, xor-step, xor-zero-r}
 use Rattle.lanes.specs.Lane.{bit}
@@ -74,11 +74,11 @@ unfolding bit
 bit-none t = rw (zero-div (2 ^ t))
 
 -- a test that holds of the numbers below n, by computation
-every : (ℕ → Bool) → ℕ → Bool
+unfoldable pub every : (ℕ → Bool) → ℕ → Bool
 every test zero = true
 every test (suc n) = test n && every test n
 
-every-at : (test : ℕ → Bool) (n t : ℕ) → every test n ≡ true → t < n → test t ≡ true
+pub every-at : (test : ℕ → Bool) (n t : ℕ) → every test n ≡ true → t < n → test t ≡ true
 unfolding every
 every-at test zero t e h = absurd (let z : ⊥ = omega arith in z)
 every-at test (suc n) t e h = elim (decLe (suc t) n) [
@@ -90,11 +90,11 @@ pub bit-all : (t : ℕ) → t < 64 → bit t 0xffffffffffffffff ≡ true
 unfolding bit every
 bit-all t h = every-at (λ t. bit t 0xffffffffffffffff) 64 t refl h
 
-same : Bool → Bool → Bool
+unfoldable pub same : Bool → Bool → Bool
 same true b = b
 same false b = not b
 
-same-eq : (a b : Bool) → same a b ≡ true → a ≡ b
+pub same-eq : (a b : Bool) → same a b ≡ true → a ≡ b
 unfolding same
 same-eq true true e = refl
 same-eq true false e = let z : _≡_ {A = ℕ} 0 1 = cc in absurd (omega arith)
@@ -107,6 +107,13 @@ unfolding bit every same
 bit-one s t h g =
     same-eq _ _ (every-at (λ t. same (bit s (1 * 2 ^ t % 0x10000000000000000)) (eqb s t)) 64 t
     (every-at (λ s. every (λ t. same (bit s (1 * 2 ^ t % 0x10000000000000000)) (eqb s t)) 64) 64 s refl h) g)
+
+-- the word with the bits below n
+pub bit-below : (s n : ℕ) → s < 64 → n < 64 → bit s (1 * 2 ^ n % 0x10000000000000000 - 1) ≡ ltb s n
+unfolding bit every same
+bit-below s n h g =
+    same-eq _ _ (every-at (λ n. same (bit s (1 * 2 ^ n % 0x10000000000000000 - 1)) (ltb s n)) 64 n
+    (every-at (λ s. every (λ n. same (bit s (1 * 2 ^ n % 0x10000000000000000 - 1)) (ltb s n)) 64) 64 s refl h) g)
 
 -- ---- the other number of a pair
 xor-one : (x : ℕ) → bitXor x 1 ≡ x / 2 * 2 + differ (x % 2) 1
