@@ -1,0 +1,3 @@
+-- Laws of numbered lanes and of words of lanes.
+pub mod Words
+pub mod Laws
