@@ -95,6 +95,11 @@ part-long size u table l = rw (length-take-le (size * u + size - size * u) (drop
 pub row-long : (table : List ℕ) (size u n : ℕ) → u < n → n * size ≤ length table → size ≤ length (take (size * u + size - size * u) (drop (size * u) table))
 row-long table size u n h l = part-long size u table (omega (arith, l, row-fits size u n h))
 
+pub part-taken : (table : List ℕ) (size u v : ℕ) → u ≡ v → size * v + size ≤ length table → rowOf size table u ≡ take size (take (size * v + size - size * v) (drop (size * v) table))
+part-taken table size u v e l =
+    let long : length (take (size * v + size - size * v) (drop (size * v) table)) ≡ size * v + size - size * v = length-take-le (size * v + size - size * v) (drop (size * v) table) (rw length-drop (omega arith)) in
+    ap (rowOf size table) e ∙ sym (take-all size (take (size * v + size - size * v) (drop (size * v) table)) (omega arith) ∙ part-row table size size v refl)
+
 -- a table whose rows are written end to end
 pub rows-written : (row : ℕ → List ℕ) (size count : ℕ) (table old : List ℕ) → ((u : ℕ) → length (row u) ≡ size) → table ≡ overwritten (gather row count) old
     → Rows size count table row

@@ -117,7 +117,7 @@ clear-three [] m e = omega arith
 clear-three (a ∷ row) zero e = omega (arith, leb-false 3 a (or-left-false _ (hasConflict row) e))
 clear-three (a ∷ row) (suc m) e = clear-three row m (or-right-false (leb 3 a) _ e)
 
-three-clear : (row : List ℕ) → ((m : ℕ) → getD row m X ≤ 2) → hasConflict row ≡ false
+pub three-clear : (row : List ℕ) → ((m : ℕ) → getD row m X ≤ 2) → hasConflict row ≡ false
 unfolding hasConflict
 three-clear [] h = refl
 three-clear (a ∷ row) h = rw (lt-leb 3 a (omega (arith, h 0))) (three-clear row (λ m. h (suc m)))

@@ -11,7 +11,8 @@ use native.Mathlib.Omega.{arith}
 use native.Mathlib.Nat.{mul-le-mul}
 use Rattle.lists.specs.Scan.{anyBelow, gather}
 use Rattle.lists.proofs.Scan.{All, all-at, select-all, length-select, length-gather, gather-turn, getD-any, anyBelow-more, countBelow-bound}
-use Rattle.lists.proofs.Field.{row-fits}
+use Rattle.lists.specs.Field.{rowOf}
+use Rattle.lists.proofs.Field.{row-fits, part-taken}
 use Rattle.lists.proofs.Tests.{and-left, by-test, by-eq}
 use Rattle.model.specs.Inputs.{N, I, F, O, L, isInput, isOutput, flipFlops, outputLines, inputsAt, Fault}
 use Rattle.model.specs.Accepted.{ValidCircuit, ValidTest, ValidInputs, ThreeValued}
@@ -38,7 +39,8 @@ pub length-inputs : (c t : List ℕ) (i u : ℕ) → i ≡ I c → i * u + i ≤
 length-inputs c t i u e l = rw (← (part-inputs c t i u e)) (length-take-le (i * u + i - i * u) (drop (i * u) t) (rw length-drop (omega arith)) ∙ (let size : i * u + i - i * u ≡ I c = omega arith in size))
 
 pub fed-inputs : (c t : List ℕ) (i u : ℕ) → i ≡ I c → i * u + i ≤ length t → inputsAt c t u ≡ take i (take (i * u + i - i * u) (drop (i * u) t))
-fed-inputs c t i u e l = rw (part-inputs c t i u e) (sym (take-all i (inputsAt c t u) (omega (arith, length-inputs c t i u e l))))
+unfolding inputsAt rowOf
+fed-inputs c t i u e l = rw (← e) (part-taken t i u u refl l)
 
 test-fits : (c t : List ℕ) (j : Job) (u : ℕ) → JobOf c t j → ValidTest c t → u < j .units → j .inputs * u + j .inputs ≤ length t
 test-fits c t j u o v h = rw (v .whole, ← (o .units), ← (o .inputs)) (row-fits (j .inputs) u (j .units) h)

@@ -1,0 +1,2 @@
+-- Laws of trials.
+pub mod Laws

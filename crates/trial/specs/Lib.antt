@@ -1,0 +1,2 @@
+-- What the lanes of a word of trials hold.
+pub mod Trial
