@@ -208,6 +208,11 @@ unfolding anyBelow
 anyBelow-none P zero h = refl
 anyBelow-none P (suc n) h = rw (anyBelow-none P n (λ m q. h m (omega arith))) (h n (omega arith))
 
+pub anyBelow-same : (P R : ℕ → Bool) (n : ℕ) → ((m : ℕ) → m < n → P m ≡ R m) → anyBelow P n ≡ anyBelow R n
+unfolding anyBelow
+anyBelow-same P R zero e = refl
+anyBelow-same P R (suc n) e = rw (anyBelow-same P R n (λ m h. e m (omega arith)), e n (omega arith))
+
 pub countBelow-positive : (P : ℕ → Bool) (n m : ℕ) → m < n → P m ≡ true → 0 < countBelow P n
 unfolding countBelow
 countBelow-positive P zero m h e = absurd (let z : ⊥ = omega arith in z)

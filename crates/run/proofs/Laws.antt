@@ -60,6 +60,21 @@ runnable valid of tables hits masks feed words state = record {
   stateRoom = omega (arith, valid .circuit .flipFlops);
 }
 
+-- runnable still, once inputs, words and states have been written over
+pub runnable-again : {c t pins flops outs hits masks feed words state : List ℕ} {j : Job} (feed′ words′ state′ : List ℕ) → Runnable c t j pins flops outs hits masks feed words state
+    → length feed′ ≡ length feed → length words′ ≡ length words → length state′ ≡ length state → Runnable c t j pins flops outs hits masks feed′ words′ state′
+runnable-again feed′ words′ state′ run feeds lines states = record {
+  circuit = run .circuit;
+  test = run .test;
+  sizes = run .sizes;
+  tables = run .tables;
+  hitRoom = run .hitRoom;
+  maskRoom = run .maskRoom;
+  feedRoom = omega (arith, run .feedRoom);
+  lineRoom = omega (arith, run .lineRoom);
+  stateRoom = omega (arith, run .stateRoom);
+}
+
 -- what the two steps of a unit ask for, once inputs, words and states have been written over by d, w and s words
 module _ (c t : List ℕ) (j : Job) (pins flops outs hits masks feed₀ words₀ state₀ : List ℕ) (run : Runnable c t j pins flops outs hits masks feed₀ words₀ state₀)
     (d w s : ℕ) (ld : d ≡ length feed₀) (lw : w ≡ length words₀) (ls : s ≡ length state₀) where

@@ -1,0 +1,2 @@
+-- Laws of starting states in lanes.
+pub mod Laws

@@ -1,0 +1,2 @@
+-- What a search through the starting states finds.
+pub mod Starts
