@@ -2,8 +2,8 @@
 use mathlib.Core.Path.{_≡_, refl, sym, ap, _∙_}
 use Prim.Native.Nat.{ℕ, suc, _+_, _*_, _-_, _/_, _%_, _<_, _≤_}
 use mathlib.Core.List.{List, [], _∷_, _++_, append-nil, append-assoc}
-use lib.ListN.{getD, length, set, take, drop, length-append, length-drop, drop-of-length-le}
-use lib.Seq.{getD-take, getD-drop, take-suc, take-length, take-all, length-take-le, take-at, drop-at, drop-drop, take-append-le, drop-append-le, sets, sets-eq}
+use lib.ListN.{getD, length, set, take, drop, length-append, length-set, length-drop, drop-of-length-le}
+use lib.Seq.{getD-take, getD-drop, getD-append-add, set-append-left, take-suc, take-length, take-all, length-take-le, take-at, drop-at, drop-drop, take-append-le, drop-append-le, sets, sets-eq}
 use native.Mathlib.Numerals.{add-one}
 use native.Mathlib.Omega.{arith}
 use native.Mathlib.Nat.{mul-le-mul-left, mul-suc, mul-comm}
@@ -41,6 +41,19 @@ unfolding overwritten
 overwritten-more done [] v h = absurd (let z : ⊥ = omega arith in z)
 overwritten-more [] (x ∷ old) v h = refl
 overwritten-more (a ∷ done) (x ∷ old) v h = ap (_∷_ a) (overwritten-more done old v (omega arith))
+
+-- a byte behind what is written
+pub overwritten-behind : (done old area : List ℕ) (o d : ℕ) → length done ≡ o → area ≡ overwritten done old → getD area o d ≡ getD old o d
+unfolding overwritten
+overwritten-behind done old area o d e a =
+    let start : length done + 0 ≡ o = omega arith in
+    ap (λ x. getD x o d) a ∙ ap (λ i. getD (done ++ drop (length done) old) i d) (sym start) ∙ getD-append-add done (drop (length done) old) 0 d ∙ getD-drop (length done) old 0 d
+    ∙ ap (λ i. getD old i d) start
+
+-- a byte of what is written, written anew
+pub overwritten-set : (new old : List ℕ) (i v : ℕ) → i < length new → set (overwritten new old) i v ≡ overwritten (set new i v) old
+unfolding overwritten
+overwritten-set new old i v h = set-append-left new (drop (length new) old) i v h ∙ ap (λ n. set new i v ++ drop n old) (sym (length-set new i v))
 
 -- a row written byte by byte
 module _ (row old : List ℕ) where

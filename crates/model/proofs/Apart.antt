@@ -94,7 +94,7 @@ giveRow-at (a ∷ row) [] m h k e = h m
 giveRow-at (a ∷ row) (b ∷ new) zero h k e = give-three a b (h 0) (k 0) (or-left-false _ (someOppose row new) e)
 giveRow-at (a ∷ row) (b ∷ new) (suc m) h k e = giveRow-at row new m (λ i. h (suc i)) (λ i. k (suc i)) (or-right-false (opposes a b) _ e)
 
-giveRow-three : (row new : List ℕ) → ThreeValued row → ThreeValued new → someOppose row new ≡ false → ThreeValued (giveRow row new)
+pub giveRow-three : (row new : List ℕ) → ThreeValued row → ThreeValued new → someOppose row new ≡ false → ThreeValued (giveRow row new)
 giveRow-three row new h k e = record { at = λ m. giveRow-at row new m (h .at) (k .at) e }
 
 whereX-at : (row new : List ℕ) (m : ℕ) → ((m : ℕ) → getD new m X ≤ 2) → getD (whereX row new) m X ≤ 2
@@ -103,6 +103,9 @@ whereX-at [] new m h = omega arith
 whereX-at (a ∷ row) [] m h = omega arith
 whereX-at (a ∷ row) (b ∷ new) zero h = cond-cases (λ (v : ℕ). v ≤ 2) (eqb a X) b X (λ _. h 0) (λ _. omega arith)
 whereX-at (a ∷ row) (b ∷ new) (suc m) h = whereX-at row new m (λ i. h (suc i))
+
+pub whereX-three : (row new : List ℕ) → ThreeValued new → ThreeValued (whereX row new)
+whereX-three row new h = record { at = λ m. whereX-at row new m (h .at) }
 
 set-at : (row : List ℕ) (i a m : ℕ) → ((m : ℕ) → getD row m X ≤ 2) → a ≤ 2 → getD (set row i a) m X ≤ 2
 set-at [] i a m h k = omega arith
@@ -194,14 +197,12 @@ module _ (c t : List ℕ) (f : Fault) where
     unfolding marked
     unmarked-three u i α e = record { at = λ m. clear-three (impliedAt c t f u i α) m (or-left-false (hasConflict (impliedAt c t f u i α)) _ e) }
 
-    extra-three : (u i α : ℕ) → α ≤ 1 → ThreeValued (extra c t f u i α)
+    pub extra-three : (u i α : ℕ) → α ≤ 1 → ThreeValued (extra c t f u i α)
     unfolding extra
     extra-three zero i α h = record { at = λ m. set-at (nothing c) i α m (nothing-three .at) (omega arith) }
     extra-three (suc u) i α h =
         cond-cases ThreeValued (marked c t f (suc u) i α) _ _ (λ _. nothing-three)
-        (λ e.
-        let next = nextState-three c f (omega (arith, fault .value)) _ (unmarked-three u i α e) in
-        record { at = λ m. whereX-at (plainState c t f (suc u)) (nextState c f (impliedAt c t f u i α)) m (next .at) })
+        (λ e. whereX-three _ _ (nextState-three c f (omega (arith, fault .value)) _ (unmarked-three u i α e)))
 
     rowAfter-three : (u i : ℕ) → ((j : ℕ) → j < i → opposedWrite c t f u j ≡ false) → ThreeValued (rowAfter c t f u i)
     unfolding rowAfter opposedWrite plainState
