@@ -2,3 +2,4 @@
 pub mod Tests
 pub mod Scan
 pub mod Field
+pub mod Nested

@@ -37,7 +37,7 @@ unfolding orElse
 else-skips none b e = refl
 else-skips (some a) b e = absurd (Option·some-ne-none a e)
 
-else-none : {A : Type 0} (a : Option A) → a else none ≡ a
+pub else-none : {A : Type 0} (a : Option A) → a else none ≡ a
 unfolding orElse
 else-none none = refl
 else-none (some a) = refl

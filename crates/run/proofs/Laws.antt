@@ -152,7 +152,7 @@ module _ (lane wanted : ℕ) (row before : List ℕ) where
       (λ b. h .kept b m _ (keeps b m k))
 
 -- ---- the loop over the outputs
-length-outputLines : (c : List ℕ) → length (outputLines c) ≡ O c
+pub length-outputLines : (c : List ℕ) → length (outputLines c) ≡ O c
 unfolding outputLines O
 length-outputLines c = length-select (λ n. isOutput c n) (N c)
 
