@@ -1,0 +1,3 @@
+-- Laws of the places.
+pub mod Noted
+pub mod Scanned

@@ -1,0 +1,2 @@
+-- The places that stage 1 finds.
+pub mod Places

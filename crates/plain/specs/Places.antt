@@ -1,0 +1,35 @@
+-- The first opposing place of each lane, in two lists: times and lines.
+use Prim.Native.Nat.{ℕ, _%_, _<_, _≤_}
+use mathlib.Core.Path.{_≡_}
+use mathlib.Core.Bool.{false, cond}
+use mathlib.Core.List.{List}
+use mathlib.Core.Option.{none, some}
+use lib.ListN.{getD}
+use lib.Dec.{eqb}
+use Rattle.lists.specs.Scan.{firstPair}
+use Rattle.lists.specs.Field.{Rows}
+use Rattle.model.specs.Inputs.{N, O, L, Fault}
+use Rattle.model.specs.Simulation.{powerUp, freeOutputs}
+use Rattle.model.specs.Grade.{opposedAt}
+use Rattle.lanes.specs.Lane.{bit, Lane}
+use Rattle.unit.specs.Unit.{Stuck}
+
+-- the place noted for a lane: a time unit and a line
+abbrev pub placeAt : List ℕ → List ℕ → ℕ → ℕ × ℕ
+placeAt times lines lane = (getD times lane 0, getD lines lane 0)
+
+-- a place is noted for lane t if the number's lowest bit is set; all other lanes keep theirs
+pub record NotedIf (rest t u line : ℕ) (times lines times′ lines′ : List ℕ) : Type 0 where
+  pub here : placeAt times′ lines′ t ≡ cond (eqb (rest % 2) 1) (u, line) (placeAt times lines t)
+  pub others : (lane : ℕ) → (lane ≡ t → ⊥) → placeAt times′ lines′ lane ≡ placeAt times lines lane
+
+-- a place is noted for the new lanes; all others keep theirs
+pub record Noted (new u line : ℕ) (times lines times′ lines′ : List ℕ) : Type 0 where
+  pub at : (lane : ℕ) → lane < 64 → placeAt times′ lines′ lane ≡ cond (bit lane new) (u, line) (placeAt times lines lane)
+
+-- Of each lane below count, from the power-up state: the lowest time unit, and in it the lowest line number, at which an output opposes what
+-- the fault-free circuit shows, which the rows of `free` hold. A lane has a place if its bit of r is set.
+pub record Places (c t free : List ℕ) (count : ℕ) (hits masks state times lines : List ℕ) (r : ℕ) : Type 0 where
+  pub first : (lane : ℕ) (f : Fault) → lane < count → Stuck lane hits masks f → Lane lane state (powerUp c) → Rows (O c) (L c t) free (freeOutputs c t)
+      → firstPair (λ u n. opposedAt c t f u n) (L c t) (N c) ≡ cond (bit lane r) (some (placeAt times lines lane)) none
+  pub beyond : (lane : ℕ) → count ≤ lane → lane < 64 → bit lane r ≡ false
