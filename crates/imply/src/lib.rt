@@ -230,7 +230,7 @@ fn up_pass(c: &[u8], pins: &[u16], hits: &[u8], masks: &[u64], words: &mut [u64]
 }
 
 // The lanes that have met a conflict: those in which some line has both bits.
-fn conflicts(words: &[u64], lines: usize) -> u64
+pub fn conflicts(words: &[u64], lines: usize) -> u64
     requires { ⌜ Room lines (now words) ⌝ }
     ensures { λ r. ⌜ ((t : ℕ) (vs : List ℕ) → length vs ≡ lines → Follows t (now (words .entry)) vs → bit t r ≡ hasConflict vs) ⌝ }
 {
