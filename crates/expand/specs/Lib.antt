@@ -1,0 +1,2 @@
+-- Where a walk over the pairs stands.
+pub mod Expand
