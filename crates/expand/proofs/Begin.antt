@@ -18,8 +18,9 @@ use Rattle.model.specs.Values.{X}
 use Rattle.model.specs.Simulation.{plainState, powerUp}
 use Rattle.model.specs.Expansion.{nout, tried, rowAfter}
 use Rattle.model.proofs.ThreeValued.{stateAt-three, powerUp-three}
+use Rattle.pending.specs.Pending.{OpenUnits}
 use Rattle.expand.specs.declared.Walk.{Walk}
-use Rattle.expand.specs.Expand.{isX, bothAt, writesAt, rowTo, TriedTo, Walked, OpenUnits}
+use Rattle.expand.specs.Expand.{isX, bothAt, writesAt, rowTo, TriedTo, Walked}
 use Rattle.expand.proofs.Place.{position, place-below, unit-inside, first-unit, table-at, row-copied}
 use Rattle.expand.proofs.Steps.{untried-both, untried-written}
 use Rattle.expand.proofs.Turn.{turn-nothing}

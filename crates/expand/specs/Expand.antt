@@ -12,9 +12,10 @@ use Rattle.model.specs.Accepted.{ValidTest, ValidFault, ThreeValued}
 use Rattle.model.specs.Values.{X, giveRow, someOppose}
 use Rattle.model.specs.Simulation.{nextState, plainState, freeOutputs}
 use Rattle.model.specs.Implication.{whereX, impliedAt, marked}
-use Rattle.model.specs.Expansion.{nout, tried, bothMarked, opposedWrite, rowAfter, stateRow}
+use Rattle.model.specs.Expansion.{tried, bothMarked, opposedWrite, rowAfter, stateRow}
 use Rattle.lanes.specs.Lane.{bit, Lane}
 use Rattle.unit.specs.Unit.{Stuck}
+use Rattle.pending.specs.Pending.{OpenUnits}
 use Rattle.expand.specs.declared.Batch.{Batch}
 use Rattle.expand.specs.declared.Walk.{Walk}
 
@@ -99,12 +100,6 @@ module _ (c t : List ℕ) (f : Fault) where
     pub tried : TriedTo stop states
     pub word : WordOf states at next marks after
     pub unit : (e : ℕ) → at ≤ e → e < next → isX states e ≡ true → getD units (pairAt states at e) 0 ≡ e / width - 1
-
-  -- Nout is above 0 at the units below `units` and 0 from there on.
-  pub record OpenUnits (units : ℕ) : Type 0 where
-    pub most : units ≤ L c t
-    pub above : (u : ℕ) → u < units → 0 < nout c t f u
-    pub zero : (u : ℕ) → units ≤ u → u < L c t → nout c t f u ≡ 0
 
 -- What stages 3 and 4 ask of the fault that all lanes have: its table of plain states, the responses without it, and where Nout is above 0.
 pub record Ready (c t free states hits masks : List ℕ) (units : ℕ) (f : Fault) : Type 0 where

@@ -9,7 +9,7 @@ use lib.Dec.{eqb}
 use native.Mathlib.Omega.{arith}
 use Rattle.lists.specs.Field.{rowOf}
 use Rattle.lists.proofs.Tests.{by-eq}
-use Rattle.model.specs.Inputs.{Fault}
+use Rattle.model.specs.Inputs.{L, Fault}
 use Rattle.model.specs.Values.{X, isSpecified}
 use Rattle.model.specs.Simulation.{plainOutputs, freeOutputs}
 use Rattle.model.specs.Expansion.{countOpen, nout}
@@ -63,3 +63,11 @@ module _ {c t : List ℕ} {f : Fault} (units outputs : ℕ) (free faulty : List 
             (λ e. rw e (getD-set-same table u (later + added) 0 room ∙ all))
             (λ e. getD-set-other table u v (later + added) 0 e ∙ done .at v (omega arith) q);
       }
+
+-- ---- Nout never grows from a unit to the next
+pub nout-later : (c t : List ℕ) (f : Fault) (u k : ℕ) → u + k < L c t → nout c t f u ≡ 0 → nout c t f (u + k) ≡ 0
+nout-later c t f u zero h e = let same : u + 0 ≡ u = omega arith in rw same e
+nout-later c t f u (suc k) h e =
+    let more : u + suc k ≡ suc (u + k) = omega arith in
+    let before : nout c t f (u + k) ≡ 0 = nout-later c t f u k (omega arith) e in
+    rw more (omega (arith, nout-step c t f (u + k) (omega arith)))
