@@ -6,3 +6,4 @@ pub mod Write
 pub mod Turn
 pub mod Begin
 pub mod Tries
+pub mod Result
