@@ -1,0 +1,3 @@
+-- Laws of one fault's stages.
+pub mod Tables
+pub mod Last

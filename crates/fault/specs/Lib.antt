@@ -1,0 +1,2 @@
+-- What one fault's stages ask for and give.
+pub mod Fault
