@@ -1,4 +1,4 @@
--- The lanes below a count, and a place noted for the lanes of a word, from the lowest on.
+-- A place noted for the lanes of a word, from the lowest on.
 use mathlib.Core.Path.{_≡_, refl, sym, ap, _∙_}
 use mathlib.Core.Bool.{false, cond}
 use mathlib.Core.List.{List}
@@ -6,17 +6,15 @@ use Prim.Native.Nat.{ℕ, suc, _+_, _-_, _/_, _%_, _^_, _<_, _≤_}
 use native.Mathlib.Omega.{arith}
 use native.Mathlib.Decide.{decLe}
 use native.Mathlib.Nat.{div-one, div-eq-of-lt, pow-le-pow-right}
-use lib.Dec.{ltb}
 use lib.ListN.{length, set}
 use lib.Pow.{shr-shr}
 use lib.Seq.{getD-set-same, getD-set-other}
-use borrow.Author.Tests.{lt-ltb, le-ltb}
 use Rattle.lists.proofs.Tests.{by-eq}
 use Rattle.lanes.specs.Lane.{bit}
-use Rattle.lanes.proofs.Bits.{bit-none, bit-all}
+use Rattle.lanes.proofs.Bits.{bit-none}
 use Rattle.plain.specs.Places.{placeAt, NotedIf, Noted}
 
--- ---- the lanes below a count
+-- ---- a word shifted
 shifted-out : (t x : ℕ) → x < 0x10000000000000000 → 64 ≤ t → x / 2 ^ t ≡ 0
 shifted-out t x h l =
     let up : 2 ^ 64 ≤ 2 ^ t = pow-le-pow-right (omega arith) l in
@@ -25,19 +23,6 @@ shifted-out t x h l =
 bit-shifted : (t k x : ℕ) → bit t (x / 2 ^ k) ≡ bit (k + t) x
 unfolding bit
 bit-shifted t k x = rw (shr-shr x k t)
-
-bit-past : (t : ℕ) → 64 ≤ t → bit t 0xffffffffffffffff ≡ false
-unfolding bit
-bit-past t l = rw (shifted-out t 0xffffffffffffffff (omega arith) l)
-
-pub lanes-none : (lane count : ℕ) → count ≡ 0 → bit lane 0 ≡ ltb lane count
-lanes-none lane count e = bit-none lane ∙ sym (le-ltb lane count (omega arith))
-
-pub lanes-below : (lane count : ℕ) → count ≤ 64 → bit lane (0xffffffffffffffff / 2 ^ (64 - count)) ≡ ltb lane count
-lanes-below lane count h = bit-shifted lane (64 - count) 0xffffffffffffffff ∙ elim (decLe (suc lane) count) [
-  | yes g ↦ bit-all (64 - count + lane) (omega arith) ∙ sym (lt-ltb lane count g)
-  | no g ↦ bit-past (64 - count + lane) (omega arith) ∙ sym (le-ltb lane count (omega arith))
-]
 
 -- ---- one lane
 module _ (rest t u line : ℕ) (times lines : List ℕ) where

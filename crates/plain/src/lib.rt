@@ -10,17 +10,6 @@ ghost use Rattle.run.specs.Run.{Runnable};
 ghost use Rattle.plain.specs.Places.{NotedIf, Noted, Places};
 use job::Job;
 
-// The lanes below count.
-fn first_lanes(count: usize) -> u64
-    requires { ⌜ count ≤ 64 ⌝ }
-    ensures { λ r. ⌜ ((lane : ℕ) → lane < 64 → bit lane r ≡ ltb lane count) ⌝ }
-{
-    if count == 0 {
-        return 0;
-    }
-    run::ALL >> (64 - count)
-}
-
 // Unit u and this line are noted for lane t if the lowest bit of `rest` is set.
 fn note_if(rest: u64, t: usize, u: usize, line: usize, times: &mut [usize], lines: &mut [usize])
     requires { ⌜ (t < length (now times)) × (t < length (now lines)) ⌝ }
@@ -69,7 +58,7 @@ pub fn first_places(
         × (count ≤ 64) × (64 ≤ length (now times)) × (64 ≤ length (now lines)) ⌝ }
     ensures { λ r. ⌜ Places (now (c .entry)) (now (t .entry)) (now (free .entry)) count (now (hits .entry)) (now (masks .entry)) (now (state .entry)) (now (times .exit)) (now (lines .exit)) r ⌝ }
 {
-    let wanted = first_lanes(count);
+    let wanted = tally::first_lanes(count);
     let mut found: u64 = 0;
     let mut u: usize = 0;
     'units: while u < job.units {

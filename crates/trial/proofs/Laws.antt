@@ -32,14 +32,6 @@ use Rattle.imply.proofs.Pins.{length-give}
 use Rattle.imply.proofs.Steps.{length-down, length-up}
 use Rattle.trial.specs.Trial.{StandsAt, Carried, triedTo, PairsOf}
 
-pub holds-unless : (t : Bool) → not t ≡ false → t ≡ true
-holds-unless true e = refl
-holds-unless false e = sym e
-
-pub fails-where : (t : Bool) → not t ≡ true → t ≡ false
-fails-where true e = sym e
-fails-where false e = refl
-
 sides : (a b : Bool) → (((a && true) || (b && false)) ≡ a) × (((a && false) || (b && true)) ≡ b)
 sides true true = (refl, refl)
 sides true false = (refl, refl)

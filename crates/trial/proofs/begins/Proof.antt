@@ -1,7 +1,6 @@
 use mathlib.Core.Bool.{true≢false}
 use native.Mathlib.Omega.{arith}
-use borrow.Author.Tests.{eqb-true}
-use Rattle.trial.proofs.Laws.{holds-unless}
+use borrow.Author.Tests.{eqb-true, not-false}
 use borrow.Author.Needs.{needs}
 use Rattle.trial.proofs.begins.Statement.{statement}
 use Rattle.trial.proofs.begins.Tie as tie
@@ -10,7 +9,7 @@ returns : tie.Need-returns
 returns c = λ e. absurd (true≢false e)
 
 returns-2 : tie.Need-returns-2
-returns-2 c = λ e. (omega (arith, c .before .before .if1 .left), eqb-true _ _ (holds-unless _ e))
+returns-2 c = λ e. (omega (arith, c .before .before .if1 .left), eqb-true _ _ (not-false _ e))
 
 pub begins-spec : {M : Type 1} → statement M
 begins-spec =

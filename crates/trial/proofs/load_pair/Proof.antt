@@ -1,5 +1,6 @@
 use mathlib.Core.Path.{refl}
-use Rattle.trial.proofs.Laws.{fails-where, below-from, above-from, carried-same, carried-more}
+use borrow.Author.Tests.{not-true}
+use Rattle.trial.proofs.Laws.{below-from, above-from, carried-same, carried-more}
 use borrow.Author.Needs.{needs}
 use Rattle.trial.proofs.load_pair.Statement.{statement}
 use Rattle.trial.proofs.load_pair.Tie as tie
@@ -9,7 +10,7 @@ abbrev ranged : tie.After-load-unit → tie.After-lanes-from
 ranged c = c .before .before .before
 
 returns : tie.Need-returns
-returns c = let same = c .before .begins .ensures (fails-where _ (c .if1 .taken)) in carried-same _ _ _ (same .0) (same .1)
+returns c = let same = c .before .begins .ensures (not-true _ (c .if1 .taken)) in carried-same _ _ _ (same .0) (same .1)
 
 returns-2 : tie.Need-returns-2
 returns-2 c =

@@ -2,7 +2,8 @@ use mathlib.Core.Path.{ap, _∙_}
 use Rattle.lists.proofs.Field.{part-row, part-long}
 use Rattle.model.specs.Values.{someOppose}
 use Rattle.model.specs.Simulation.{outputs}
-use Rattle.trial.proofs.Laws.{fails-where, carried-same, carried-more, word-below, word-above}
+use borrow.Author.Tests.{not-true}
+use Rattle.trial.proofs.Laws.{carried-same, carried-more, word-below, word-above}
 use borrow.Author.Needs.{needs}
 use Rattle.trial.proofs.opposing_pair.Statement.{statement}
 use Rattle.trial.proofs.opposing_pair.Tie as tie
@@ -12,7 +13,7 @@ abbrev start : tie.After-shared-slice-known8 → tie.Start
 start c = c .before .before .before .before .before .before .before .before .before .before
 
 returns : tie.Need-returns
-returns c = λ f vs s e. let same = c .before .begins .ensures (fails-where _ (c .if1 .taken)) in carried-same _ _ _ (same .0) (same .1)
+returns c = λ f vs s e. let same = c .before .begins .ensures (not-true _ (c .if1 .taken)) in carried-same _ _ _ (same .0) (same .1)
 
 opposing-requires : tie.Need-opposing-requires
 opposing-requires c κs = let pre = start (c .before) .pre in (pre .0, pre .1, pre .2, pre .3, part-long _ _ _ (pre .6))
