@@ -12,6 +12,7 @@ use lib.Seq.{length-take-le}
 use borrow.Author.Tests.{eq-eqb, ne-eqb}
 use Rattle.lists.specs.Field.{overwritten, rowOf, Rows}
 use Rattle.lists.proofs.Field.{row-fits}
+use Rattle.lists.proofs.Table.{row-written}
 use Rattle.lists.proofs.Tests.{by-test, by-eq}
 use Rattle.model.specs.Inputs.{F, L, Fault}
 use Rattle.model.specs.Accepted.{ThreeValued}
@@ -23,12 +24,11 @@ use Rattle.model.proofs.Runs.{length-nextState}
 use Rattle.model.proofs.ThreeValued.{nextState-three}
 use Rattle.model.proofs.Apart.{giveRow-three, whereX-three}
 use Rattle.lanes.specs.Lane.{bit, Lane}
-use Rattle.lanes.proofs.Follows.{clear-at}
 use Rattle.rows.proofs.Laws.{length-giveRow, giveRow-nothing, someOppose-nothing}
-use Rattle.trial.proofs.Laws.{unmarked-clear, state-size}
+use Rattle.trial.proofs.Laws.{extra-shown, implied-three}
 use Rattle.expand.specs.declared.Walk.{Walk}
 use Rattle.expand.specs.Expand.{isX, pairAt, Written, Settled, bothAt, writesAt, rowTo, Walked, Settling}
-use Rattle.expand.proofs.Place.{first-unit, unit-inside, row-written}
+use Rattle.expand.proofs.Place.{first-unit, unit-inside}
 use Rattle.expand.proofs.Steps.{untried-both, untried-written, one-both, both-both, none-written, zero-written, one-written, row-here, row-next, row-other, walked-both, walked-past, walked-opposed, walked-written}
 
 module _ (c t : List ℕ) (f : Fault) (end e : ℕ) (list : List ℕ) (w : Walk) (some : 0 < F c) (inside : e / F c < L c t) (old : Walked c t f end e list w) where
@@ -102,17 +102,6 @@ module _ (c t : List ℕ) (f : Fault) (end e : ℕ) (list : List ℕ) (w : Walk)
                 (λ s. rw (ne-eqb v (e / F c) s) (old .rows l g .at v h ∙ sym (row-other c t f e some v s)))
 
 -- ---- by the word
-pub extra-shown : (c t : List ℕ) (f : Fault) (u i α : ℕ) → 1 ≤ u → marked c t f u i α ≡ false → extra c t f u i α ≡ whereX (plainState c t f u) (nextState c f (impliedAt c t f (u - 1) i α))
-unfolding extra
-extra-shown c t f zero i α h e = absurd (let z : ⊥ = omega arith in z)
-extra-shown c t f (suc u) i α h e = let same : suc u - 1 ≡ u = omega arith in rw (e, same)
-
-pub implied-three : (c t : List ℕ) (f : Fault) (u i α : ℕ) → 1 ≤ u → marked c t f u i α ≡ false → ThreeValued (impliedAt c t f (u - 1) i α)
-implied-three c t f zero i α h e = absurd (let z : ⊥ = omega arith in z)
-implied-three c t f (suc u) i α h e =
-    let same : suc u - 1 ≡ u = omega arith in
-    rw same record { at = λ m. omega (arith, clear-at (impliedAt c t f u i α) m (unmarked-clear c t f u i α e)) }
-
 module _ (c t : List ℕ) (f : Fault) (end stop : ℕ) (states units : List ℕ) (at next marks : ℕ) (after : List ℕ) (e : ℕ) (list list′ : List ℕ) (w r : Walk)
     (settling : Settling c t f (F c) end stop states units at next marks after) (begun : at ≤ e) (before : e < next) (room : L c t * F c ≤ length list) (old : Walked c t f end e list w) where
   soon : e < stop

@@ -1,5 +1,6 @@
--- Laws of tests, scans and fields.
+-- Laws of tests, scans, fields and tables.
 pub mod Tests
 pub mod Scan
 pub mod Field
 pub mod Nested
+pub mod Table

@@ -2,7 +2,7 @@
 use mathlib.Core.Path.{_≡_, refl, sym, ap, _∙_}
 use mathlib.Core.Bool.{Bool, true, false, cond, not, _&&_, _||_}
 use mathlib.Core.List.{List}
-use Prim.Native.Nat.{ℕ, suc, _+_, _*_, _-_, _/_, _%_, _<_, _≤_}
+use Prim.Native.Nat.{ℕ, zero, suc, _+_, _*_, _-_, _/_, _%_, _<_, _≤_}
 use native.Mathlib.Omega.{arith}
 use native.Mathlib.Decide.{decLe}
 use lib.Bits.{bitAnd, bitOr}
@@ -13,10 +13,10 @@ use Rattle.lists.specs.Field.{rowOf}
 use Rattle.lists.proofs.Tests.{by-test, by-eq, or-left-false}
 use Rattle.lists.proofs.Field.{row-fits}
 use Rattle.model.specs.Inputs.{N, pinLine, flipFlopLine, I, F, O, L, inputsAt, Fault}
-use Rattle.model.specs.Accepted.{ValidTest}
+use Rattle.model.specs.Accepted.{ValidTest, ThreeValued}
 use Rattle.model.specs.Values.{X, someOppose, hasConflict}
-use Rattle.model.specs.Simulation.{lineValues, outputs, powerUp, valuesAt, plainState, plainValues, freeOutputs}
-use Rattle.model.specs.Implication.{giveLine, implied, impliedAt, marked}
+use Rattle.model.specs.Simulation.{lineValues, outputs, nextState, powerUp, valuesAt, plainState, plainValues, freeOutputs}
+use Rattle.model.specs.Implication.{giveLine, implied, whereX, impliedAt, marked, extra}
 use Rattle.model.proofs.Runs.{length-lineValues}
 use Rattle.model.proofs.ThreeValued.{inputs-three, powerUp-three, lineValues-three, stateAt-three}
 use Rattle.model.proofs.Apart.{three-clear}
@@ -199,6 +199,18 @@ module _ (c t : List ℕ) (f : Fault) (v i α : ℕ) where
   pub unmarked-clear : marked c t f (suc v) i α ≡ false → hasConflict (impliedAt c t f v i α) ≡ false
   unfolding marked
   unmarked-clear e = or-left-false _ _ e
+
+-- what an unmarked value gives: its extra, and line values that are 0, 1 or X
+pub extra-shown : (c t : List ℕ) (f : Fault) (u i α : ℕ) → 1 ≤ u → marked c t f u i α ≡ false → extra c t f u i α ≡ whereX (plainState c t f u) (nextState c f (impliedAt c t f (u - 1) i α))
+unfolding extra
+extra-shown c t f zero i α h e = absurd (let z : ⊥ = omega arith in z)
+extra-shown c t f (suc u) i α h e = let same : suc u - 1 ≡ u = omega arith in rw (e, same)
+
+pub implied-three : (c t : List ℕ) (f : Fault) (u i α : ℕ) → 1 ≤ u → marked c t f u i α ≡ false → ThreeValued (impliedAt c t f (u - 1) i α)
+implied-three c t f zero i α h e = absurd (let z : ⊥ = omega arith in z)
+implied-three c t f (suc u) i α h e =
+    let same : suc u - 1 ≡ u = omega arith in
+    rw same record { at = λ m. omega (arith, clear-at (impliedAt c t f u i α) m (unmarked-clear c t f u i α e)) }
 
 pub tried-all : (c bits : List ℕ) (count lane : ℕ) (vs : List ℕ) → lane / 2 < count → triedTo c bits count lane vs ≡ giveLine vs (pinLine c (flipFlopLine c (getD bits (lane / 2) 0)) 1) (lane % 2)
 unfolding triedTo

@@ -1,0 +1,12 @@
+use mathlib.Core.Path.{_≡_, refl}
+use Rattle.lanes.specs.Lane.{bit}
+use borrow.Author.Needs.{needs}
+use Rattle.take.proofs.has_lane.Statement.{statement}
+use Rattle.take.proofs.has_lane.Tie as tie
+
+returns : tie.Need-returns
+unfolding bit
+returns c = refl
+
+pub has-lane-spec : {M : Type 1} → statement M
+has-lane-spec = tie.close (tie.spec (λ c. search needs) returns)
