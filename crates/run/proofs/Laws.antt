@@ -15,7 +15,7 @@ use Rattle.lists.specs.Field.{rowOf}
 use Rattle.lists.proofs.Field.{row-fits, part-taken}
 use Rattle.lists.proofs.Tests.{and-left, by-test, by-eq}
 use Rattle.model.specs.Inputs.{N, I, F, O, L, isInput, isOutput, flipFlops, outputLines, inputsAt, Fault}
-use Rattle.model.specs.Accepted.{ValidCircuit, ValidTest, ValidInputs, ThreeValued}
+use Rattle.model.specs.Accepted.{ValidCircuit, ValidTest, ThreeValued}
 use Rattle.model.specs.Values.{X, opposes, someOppose}
 use Rattle.model.specs.Simulation.{shown, powerUp, lineValues, outputs, nextState, stateAt, valuesAt, outputsAt}
 use Rattle.model.proofs.Runs.{length-nextState}
@@ -45,19 +45,19 @@ fed-inputs c t i u e l = rw (← e) (part-taken t i u u refl l)
 test-fits : (c t : List ℕ) (j : Job) (u : ℕ) → JobOf c t j → ValidTest c t → u < j .units → j .inputs * u + j .inputs ≤ length t
 test-fits c t j u o v h = rw (v .whole, ← (o .units), ← (o .inputs)) (row-fits (j .inputs) u (j .units) h)
 
--- an accepted job, with its tables, in arrays of the sizes that every call makes
-pub runnable : {c t fs pins flops outs hits masks feed words state : List ℕ} {least most : ℕ} {j : Job} → ValidInputs c t least most fs → JobOf c t j → Tables c pins flops outs
+-- a job that is accepted, with its tables, in arrays of the sizes that every call makes
+pub runnable : {c t pins flops outs hits masks feed words state : List ℕ} {j : Job} → ValidCircuit c → ValidTest c t → JobOf c t j → Tables c pins flops outs
     → 4096 ≤ length hits → MaskRoom masks → Room 256 feed → Room 4096 words → Room 256 state → Runnable c t j pins flops outs hits masks feed words state
-runnable valid of tables hits masks feed words state = record {
-  circuit = valid .circuit;
-  test = valid .test;
+runnable circuit test of tables hits masks feed words state = record {
+  circuit = circuit;
+  test = test;
   sizes = of;
   tables = tables;
-  hitRoom = omega (arith, valid .circuit .lines);
+  hitRoom = omega (arith, circuit .lines);
   maskRoom = masks;
-  feedRoom = omega (arith, valid .circuit .inputs);
-  lineRoom = omega (arith, valid .circuit .lines);
-  stateRoom = omega (arith, valid .circuit .flipFlops);
+  feedRoom = omega (arith, circuit .inputs);
+  lineRoom = omega (arith, circuit .lines);
+  stateRoom = omega (arith, circuit .flipFlops);
 }
 
 -- runnable still, once inputs, words and states have been written over

@@ -53,14 +53,6 @@ fn first_extras(size: usize, i: usize, m: usize, extras: &mut [u8])
     rows::one_bit(size, i, 1, &mut extras[high..]);
 }
 
-// Whether a lane is in the word.
-fn has_lane(word: u64, lane: usize) -> bool
-    requires { ⌜ lane < 64 ⌝ }
-    ensures { λ r. ⌜ r ≡ bit lane word ⌝ }
-{
-    (word >> lane) % 2 == 1
-}
-
 // The extra of the value that a lane tries for a pair at unit u, in row r: nothing where the lane is marked.
 fn lane_extra(
     size: usize,
@@ -76,7 +68,7 @@ fn lane_extra(
     ensures { λ _. ⌜ LaneExtra size (now (states .entry)) u (now (after .entry)) marks lane r (now (extras .entry)) (now (extras .exit)) ⌝ }
 {
     let at = size * r;
-    if has_lane(marks, lane) {
+    if tally::has_lane(marks, lane) {
         rows::one_bit(size, 0, 2, &mut extras[at..]);
         return;
     }

@@ -51,6 +51,14 @@ pub fn first_lanes(count: usize) -> u64
     (1 << count) - 1
 }
 
+// Whether a lane is in the word.
+pub fn has_lane(word: u64, lane: usize) -> bool
+    requires { ⌜ lane < 64 ⌝ }
+    ensures { λ r. ⌜ r ≡ bit lane word ⌝ }
+{
+    (word >> lane) % 2 == 1
+}
+
 // How many lanes are in the word.
 pub fn count(word: u64) -> usize
     ensures { λ r. ⌜ r ≡ countBelow (λ t. bit t word) 64 ⌝ }

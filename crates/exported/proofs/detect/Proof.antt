@@ -38,7 +38,7 @@ opposing-ever-requires c κs =
     let tables = tabled (give .before) in
     let pre = start (tables .before) .pre in
     let masks = power .before .before .before in (
-      runnable (pre .0) (pre .1) (tables .list-tables .ensures) (omega (arith, masks .before .hits2 .given)) (omega (arith, masks .masks2 .given)) (omega arith) (omega arith) (omega (arith, power .state2 .given)),
+      runnable (pre .0 .circuit) (pre .0 .test) (pre .1) (tables .list-tables .ensures) (omega (arith, masks .before .hits2 .given)) (omega (arith, masks .masks2 .given)) (omega arith) (omega arith) (omega (arith, power .state2 .given)),
       omega (arith, pre .1 .units),
       rw (pre .1 .units) (pre .2),
     )

@@ -1,8 +1,8 @@
 use mathlib.Core.Path.{_≡_, refl}
 use Rattle.lanes.specs.Lane.{bit}
 use borrow.Author.Needs.{needs}
-use Rattle.take.proofs.has_lane.Statement.{statement}
-use Rattle.take.proofs.has_lane.Tie as tie
+use Rattle.tally.proofs.has_lane.Statement.{statement}
+use Rattle.tally.proofs.has_lane.Tie as tie
 
 returns : tie.Need-returns
 unfolding bit

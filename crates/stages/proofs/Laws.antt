@@ -1,0 +1,153 @@
+-- What the answers of stages 2 to 4 say of a fault's verdict.
+use mathlib.Core.Path.{_≡_, refl, sym, ap, _∙_}
+use mathlib.Core.List.{List}
+use mathlib.Core.Option.{Option, none, some, orElse, Option·getD}
+use Prim.Native.Nat.{ℕ, _+_, _*_, _-_, _/_, _%_, _<_, _≤_}
+use native.Mathlib.Omega.{arith}
+use native.Mathlib.Decide.{decLe}
+use native.Mathlib.Nat.{mul-le-mul, mod-lt}
+use borrow.Author.Tests.{lt-ltb, le-ltb}
+use lib.ListN.{length, getD, drop, take}
+use Rattle.lists.specs.Scan.{_else_}
+use Rattle.lists.specs.Field.{Rows}
+use Rattle.lists.proofs.Field.{lent}
+use Rattle.model.specs.Inputs.{flipFlops, flipFlopLine, F, O, L, Fault}
+use Rattle.model.specs.Accepted.{ValidCircuit, ValidTest, ValidFault}
+use Rattle.model.specs.Simulation.{plainOutputs, freeOutputs}
+use Rattle.model.specs.Expansion.{nout}
+use Rattle.model.specs.Grade.{Verdict, placed, stage1, stage2, stage3, stage4, beforeStage5, grade}
+use Rattle.model.specs.Sequences.{taken}
+use Rattle.model.proofs.Pending.{both-open-somewhere}
+use Rattle.model.proofs.Runs.{length-flipFlops}
+use Rattle.circuit.specs.Table.{Listed}
+use Rattle.model.proofs.Apart.{sequence-clear}
+use Rattle.job.specs.Job.{JobOf}
+use Rattle.job.specs.declared.Job.{Job}
+use Rattle.run.specs.Run.{Runnable}
+use Rattle.run.proofs.Laws.{runnable}
+use Rattle.pending.specs.Pending.{Responses, OpenUnits}
+use Rattle.expand.specs.declared.Walk.{Walk}
+use Rattle.expand.specs.Expand.{Walked, Expanded}
+use Rattle.expand.proofs.Result.{stage3-met, stage3-none, stage4-met, stage4-none, list-rows}
+use Rattle.unit.specs.Unit.{Stuck}
+use Rattle.fault.specs.Fault.{Traced}
+use Rattle.sequences.specs.Ends.{Taken, Lists}
+use Rattle.take.specs.Take.{Prepared}
+use Rattle.stages.specs.Stages.{Gradable, Standing, Deciding}
+
+module _ (c t : List ℕ) (f : Fault) (open-first : stage1 c t f ≡ none) where
+  -- ---- stage 2
+  module _ (circuit : ValidCircuit c) (test : ValidTest c t) (fault : ValidFault c f) (left : ℕ) (above : OpenUnits c t f left) where
+    pub graded-5 : left ≡ 0 → (p : List ℕ) (k : ℕ) → grade c t f p k ≡ placed 5 0 0
+    unfolding grade beforeStage5 stage2 orElse
+    graded-5 e p k =
+        let zero : nout c t f 0 ≡ 0 = above .zero 0 (omega arith) (test .some) in
+        rw (open-first, both-open-somewhere c t f circuit test fault, zero)
+
+    pub stage2-none : (left ≡ 0 → ⊥) → stage2 c t f ≡ none
+    unfolding stage2
+    stage2-none e = rw (both-open-somewhere c t f circuit test fault, lt-ltb 0 (nout c t f 0) (above .above 0 (omega arith)))
+
+-- ---- what the steps ask for
+pub flops-room : (c flops : List ℕ) → Listed (flipFlops c) flops → F c ≤ length flops
+flops-room c flops table = omega (arith, length-flipFlops c, table .room)
+
+-- the pair at position e, by the table of flip-flops
+pub pair-named : (c flops : List ℕ) (size e : ℕ) → size ≡ F c → 0 < size → Listed (flipFlops c) flops → placed 2 (e / size) (getD flops (e % size) 0) ≡ placed 2 (e / F c) (flipFlopLine c (e % F c))
+unfolding flipFlopLine
+pair-named c flops size e es some-flop table = rw (← es, table .same (e % size) (let low : e % size < size = mod-lt e some-flop in omega (arith, length-flipFlops c, es)))
+
+module _ {c t plan : List ℕ} {k : ℕ} {job : Job} {pins flops outs : List ℕ} (g : Gradable c t plan k job pins flops outs) where
+  pub runs : {hits masks feed words state : List ℕ} → length hits ≡ 4096 → length masks ≡ 2560 → length feed ≡ 512 → length words ≡ 8192 → length state ≡ 512
+      → Runnable c t job pins flops outs hits masks feed words state
+  runs h m f w s = runnable (g .circuit) (g .test) (g .sizes) (g .tables) (omega arith) (omega arith) (omega arith) (omega arith) (omega arith)
+
+  pub table-room : (n : ℕ) → n ≡ 262144 → L c t * F c ≤ n
+  table-room n e = omega (arith, mul-le-mul (g .test .most) (g .circuit .flipFlops))
+
+  pub extra-room : (n : ℕ) → n ≡ 6144 → 24 * F c ≤ n
+  extra-room n e = omega (arith, g .circuit .flipFlops)
+
+  pub pair-rows : (m n : ℕ) → m ≤ 12 → n ≡ 6144 → 2 * m * F c ≤ n
+  pair-rows m n h e = let few : 2 * m ≤ 24 = omega arith in omega (arith, mul-le-mul few (g .circuit .flipFlops))
+
+-- a work area of the same length, with the fault-free responses as before
+pub standing-again : {c t work : List ℕ} (work′ : List ℕ) → Standing c t work → length work′ ≡ length work → Rows (O c) (L c t) work′ (λ u. freeOutputs c t u) → Standing c t work′
+standing-again work′ s e frees = record { room = omega (arith, s .room); frees = frees }
+
+-- the responses in the work area, those of the fault as they are lent
+pub responses-in : (job : Job) (work c t : List ℕ) (f : Fault) → JobOf c t job → Rows (O c) (L c t) work (λ u. freeOutputs c t u) → Rows (O c) (L c t) (drop (L c t * O c) work) (λ u. plainOutputs c t f u)
+    → Responses (job .units) (job .outputs) work (take (length work - job .units * job .outputs) (drop (job .units * job .outputs) work)) c t f
+responses-in job work c t f of frees shown = record {
+  all = of .units;
+  freeRows = rw (of .units, of .outputs) frees;
+  faultyRows = rw (lent work (job .units * job .outputs), of .units, of .outputs) shown;
+}
+
+else-last : (a b : Option Verdict) → a else b ≡ none → b ≡ none
+unfolding orElse
+else-last none b e = e
+else-last (some v) b e = cc
+
+-- stage 4 gives no verdict where stages 1 to 4 give none
+last-none : (c t : List ℕ) (f : Fault) → beforeStage5 c t f ≡ none → stage4 c t f ≡ none
+unfolding beforeStage5
+last-none c t f e = else-last (stage3 c t f) _ (else-last (stage2 c t f) _ (else-last (stage1 c t f) _ e))
+
+-- the lists of the sequences of a fault that stages 1 to 4 leave open
+pub lists-of : {c t free states list hits masks times extras : List ℕ} {left m : ℕ} (f : Fault) (p : List ℕ) (k : ℕ) → ValidTest c t → beforeStage5 c t f ≡ none → Prepared c t free states list hits masks left f
+    → Taken c t f (taken c t f p k) m times extras → Lists c t f (taken c t f p k) m list times extras
+lists-of {c} {t} f p k test before ready took = record {
+  states = ready .rows;
+  taken = took;
+  clear = λ b u h. sequence-clear c t f test (ready .fault) (last-none c t f before) p k b u h;
+}
+
+-- by another name of the end
+pub deciding-as : {walk : Walk} {none none′ e : ℕ} → none ≡ none′ → Deciding walk none e → Deciding walk none′ e
+deciding-as same d = rw same at d
+
+-- ---- stages 3 and 4, of a fault that stages 1 and 2 leave open
+module _ {c t states work hits masks list : List ℕ} {left e : ℕ} {walk : Walk} (f : Fault) (stuck : (lane : ℕ) → lane < 64 → Stuck lane hits masks f) (fault : ValidFault c f)
+    (open-first : stage1 c t f ≡ none) (open-second : stage2 c t f ≡ none) (traced : Traced c t hits masks states work) (above : OpenUnits c t f left)
+    (expanded : Expanded c t work states hits masks left list walk) (decides : Deciding walk (L c t * F c) e) where
+  walked : Walked c t f (L c t * F c) (L c t * F c) list walk
+  walked = expanded .walked f record {
+    stuck = stuck;
+    fault = fault;
+    plain = traced .plain f (stuck 0 (omega arith));
+    frees = traced .frees f (stuck 0 (omega arith));
+    above = above;
+  }
+
+  pub graded-2 : e < L c t * F c → (p : List ℕ) (k : ℕ) → grade c t f p k ≡ placed 2 (e / F c) (flipFlopLine c (e % F c))
+  unfolding grade beforeStage5 orElse
+  graded-2 h p k = elim (decLe (L c t * F c) (walk .both)) [
+    | yes g ↦ (let same = decides .fourth g in rw (open-first, open-second, stage3-none c t f list walk walked g, stage4-met c t f list walk walked g (rw (← same) h), same))
+    | no g ↦ (let same = decides .third (omega arith) in rw (open-first, open-second, stage3-met c t f list walk walked (omega arith), same))
+  ]
+
+  -- neither gives a verdict
+  module _ (none-met : L c t * F c ≤ e) where
+    none-both : L c t * F c ≤ walk .both
+    none-both = elim (decLe (L c t * F c) (walk .both)) [
+      | yes g ↦ g
+      | no g ↦ absurd (let z : ⊥ = omega (arith, decides .third (omega arith)) in z)
+    ]
+
+    none-opposed : L c t * F c ≤ walk .opposed
+    none-opposed = rw (← (decides .fourth none-both)) none-met
+
+    pub before-none : beforeStage5 c t f ≡ none
+    unfolding beforeStage5 orElse
+    before-none = rw (open-first, open-second, stage3-none c t f list walk walked none-both, stage4-none c t f list walk walked none-both none-opposed)
+
+    pub prepared : Prepared c t work states list hits masks left f
+    prepared = record {
+      stuck = stuck;
+      fault = fault;
+      plain = traced .plain f (stuck 0 (omega arith));
+      frees = traced .frees f (stuck 0 (omega arith));
+      rows = list-rows c t f list walk walked none-both none-opposed;
+      above = above;
+    }

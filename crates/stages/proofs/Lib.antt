@@ -1,0 +1,2 @@
+-- Laws of stages 2 to 6.
+pub mod Laws
