@@ -291,16 +291,6 @@ fn end_block(
     ends
 }
 
-// How many sequences the next block has.
-fn block_size(left: usize) -> usize
-    ensures { λ r. ⌜ (r ≤ 64) × (r ≤ left) × (r < 64 → r ≡ left) ⌝ }
-{
-    if left < 64 {
-        return left;
-    }
-    64
-}
-
 // How many of the 2^m sequences of m taken pairs end differing, clashing, surviving, with the fault that all lanes have. `free` has the fault-free
 // responses and `list` the state list, a row a unit; `times` the pairs' units; `extras` two rows a pair, for 0 and for 1.
 pub fn count_endings(
@@ -333,7 +323,7 @@ pub fn count_endings(
     };
     let mut base: usize = 0;
     while base < total {
-        let size = block_size(total - base);
+        let size = tally::block(total - base);
         let ends = end_block(
             c,
             job,

@@ -33,7 +33,7 @@ use Rattle.unit.specs.Unit.{Stuck}
 use Rattle.fault.specs.Fault.{Traced}
 use Rattle.sequences.specs.Ends.{Taken, Lists}
 use Rattle.take.specs.Take.{Prepared}
-use Rattle.stages.specs.Stages.{Gradable, Standing, Deciding}
+use Rattle.stages.specs.Stages.{Tabled, Standing, Deciding}
 
 module _ (c t : List ℕ) (f : Fault) (open-first : stage1 c t f ≡ none) where
   -- ---- stage 2
@@ -57,7 +57,7 @@ pub pair-named : (c flops : List ℕ) (size e : ℕ) → size ≡ F c → 0 < si
 unfolding flipFlopLine
 pair-named c flops size e es some-flop table = rw (← es, table .same (e % size) (let low : e % size < size = mod-lt e some-flop in omega (arith, length-flipFlops c, es)))
 
-module _ {c t plan : List ℕ} {k : ℕ} {job : Job} {pins flops outs : List ℕ} (g : Gradable c t plan k job pins flops outs) where
+module _ {c t : List ℕ} {job : Job} {pins flops outs : List ℕ} (g : Tabled c t job pins flops outs) where
   pub runs : {hits masks feed words state : List ℕ} → length hits ≡ 4096 → length masks ≡ 2560 → length feed ≡ 512 → length words ≡ 8192 → length state ≡ 512
       → Runnable c t job pins flops outs hits masks feed words state
   runs h m f w s = runnable (g .circuit) (g .test) (g .sizes) (g .tables) (omega arith) (omega arith) (omega arith) (omega arith) (omega arith)

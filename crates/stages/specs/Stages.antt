@@ -18,12 +18,16 @@ use Rattle.expand.specs.declared.Walk.{Walk}
 use Rattle.record.specs.declared.Verdict.{Verdict}
 use Rattle.record.specs.Record.{verdictOf}
 
--- A job as all its stages have it: circuit, test and sizes, the tables of pins, flip-flops and outputs, plan and k within their limits.
-pub record Gradable (c t plan : List ℕ) (k : ℕ) (job : Job) (pins flops outs : List ℕ) : Type 0 where
+-- A job as the engine has it: circuit, test and sizes, and the tables of pins, flip-flops and outputs.
+pub record Tabled (c t : List ℕ) (job : Job) (pins flops outs : List ℕ) : Type 0 where
   pub circuit : ValidCircuit c
   pub test : ValidTest c t
   pub sizes : JobOf c t job
   pub tables : Tables c pins flops outs
+
+-- A job as all stages have it: plan and k within their limits too.
+pub record Gradable (c t plan : List ℕ) (k : ℕ) (job : Job) (pins flops outs : List ℕ) : Type 0 where
+  pub tabled : Tabled c t job pins flops outs
   pub wholePlan : length plan ≡ 4 * planCount plan
   pub fewPairs : planCount plan ≤ 4096
   pub limit : k ≤ 12

@@ -41,6 +41,16 @@ pub fn numbered(base: usize, i: usize) -> Lanes
     }
 }
 
+// How many of those left the next 64 lanes take.
+pub fn block(left: usize) -> usize
+    ensures { λ r. ⌜ (r ≤ 64) × (r ≤ left) × (r < 64 → r ≡ left) ⌝ }
+{
+    if left < 64 {
+        return left;
+    }
+    64
+}
+
 // The lanes below count.
 pub fn first_lanes(count: usize) -> u64
     ensures { λ r. ⌜ ((t : ℕ) → t < 64 → bit t r ≡ ltb t count) ⌝ }

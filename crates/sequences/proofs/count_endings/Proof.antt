@@ -27,7 +27,7 @@ abbrev μ-loop : tie.MeasureT-loop
 abbrev start : tie.At-loop Inv-loop μ-loop → tie.Start Inv-loop μ-loop
 start l = l .before .before .before .before .before .before .before .before .before .before .before .before .before .before .before
 
-abbrev sized : tie.After-end-block Inv-loop μ-loop → tie.After-block-size Inv-loop μ-loop
+abbrev sized : tie.After-end-block Inv-loop μ-loop → tie.After-block Inv-loop μ-loop
 sized c = c .before .before .before .before .before
 
 abbrev ended : tie.After-add Inv-loop μ-loop → tie.After-end-block Inv-loop μ-loop
@@ -61,14 +61,14 @@ add-requires c κs =
 add-base : tie.Need-add-base Inv-loop μ-loop
 add-base c =
     let size = sized (ended c) in
-    omega (arith, few (start (size .before .before)), size .before .loop-test .taken, size .block-size .ensures .0)
+    omega (arith, few (start (size .before .before)), size .before .loop-test .taken, size .block .ensures .0)
 
 loop-less : tie.Need-loop-less Inv-loop μ-loop
 loop-less c =
     let size = sized (ended c) in
     let in-loop = size .before in
     let below = in-loop .loop-test .taken in
-    omega (arith, below, some-sequences (in-loop .before .loop .base) (size .block-size .result) (total (start (in-loop .before))) below (size .block-size .ensures .0) (size .block-size .ensures .2))
+    omega (arith, below, some-sequences (in-loop .before .loop .base) (size .block .result) (total (start (in-loop .before))) below (size .block .ensures .0) (size .block .ensures .2))
 
 loop-again : tie.Need-loop-again Inv-loop μ-loop
 loop-again c =
@@ -78,14 +78,14 @@ loop-again c =
     let loop = in-loop .before .loop in
     let inv = loop .inv in
     let below = in-loop .loop-test .taken in
-    let limits = size .block-size .ensures in (
+    let limits = size .block .ensures in (
       omega (arith, below, limits .1),
-      next-block (loop .base) (size .block-size .result) (total (start (in-loop .before))) below (limits .0) (limits .2) _ _ _ (inv .1 below .0) (inv .1 below .1) (c .add .ensures),
+      next-block (loop .base) (size .block .result) (total (start (in-loop .before))) below (limits .0) (limits .2) _ _ _ (inv .1 below .0) (inv .1 below .1) (c .add .ensures),
       c .before .before .before .before .before .before .feed .given ∙ inv .2,
       c .before .before .before .before .words .given ∙ inv .3,
       c .before .before .state .given ∙ inv .4,
       λ f pairs stuck free lists.
-          counted-more _ _ f pairs (loop .base) (size .block-size .result) _ _ _ _ (limits .0) (block .before .before .before .before .first-lanes .ensures)
+          counted-more _ _ f pairs (loop .base) (size .block .result) _ _ _ _ (limits .0) (block .before .before .before .before .first-lanes .ensures)
           (λ lane h. block .end-block .ensures .lane lane f pairs (stuck lane h) free lists) (c .add .ensures) (inv .5 f pairs stuck free lists),
     )
 

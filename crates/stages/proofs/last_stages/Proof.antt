@@ -25,17 +25,17 @@ take-pairs-requires c κs =
     let list = feed .before .before .before in
     let s = start (list .before) in
     let g = s .pre .0 in (
-      runs g (feed .before .before .take-pairs-arg3 .given .0) (feed .before .take-pairs-arg4 .given .0) (feed .take-pairs-arg5 .given .0 .1) (state .before .take-pairs-arg6 .given .0 .1) (state .take-pairs-arg7 .given .0 .1),
+      runs (g .tabled) (feed .before .before .take-pairs-arg3 .given .0) (feed .before .take-pairs-arg4 .given .0) (feed .take-pairs-arg5 .given .0 .1) (state .before .take-pairs-arg6 .given .0 .1) (state .take-pairs-arg7 .given .0 .1),
       s .pre .1,
-      table-room g _ (list .before .take-pairs-arg .given .0),
-      table-room g _ (list .take-pairs-arg2 .given .0),
+      table-room (g .tabled) _ (list .before .take-pairs-arg .given .0),
+      table-room (g .tabled) _ (list .take-pairs-arg2 .given .0),
       g .wholePlan,
       g .fewPairs,
       g .limit,
       omega (arith, bits .before .take-pairs-arg8 .given .0 .1),
       omega (arith, bits .take-pairs-arg9 .given .0 .1),
       omega (arith, c .before .take-pairs-arg10 .given .0 .1),
-      extra-room g _ (c .take-pairs-arg11 .given .0 .1),
+      extra-room (g .tabled) _ (c .take-pairs-arg11 .given .0 .1),
     )
 
 count-endings-requires : tie.Need-count-endings-requires
@@ -46,13 +46,13 @@ count-endings-requires c κs =
     let s = start (asked take .before) in
     let g = s .pre .0 in
     let most = take .take-pairs .ensures .most in (
-      runs g (feed .before .before .count-endings-arg6 .given .0) (feed .before .count-endings-arg7 .given .0) (feed .count-endings-arg8 .given .0 .1) (c .before .count-endings-arg9 .given .0 .1) (c .count-endings-arg10 .given .0 .1),
+      runs (g .tabled) (feed .before .before .count-endings-arg6 .given .0) (feed .before .count-endings-arg7 .given .0) (feed .count-endings-arg8 .given .0 .1) (c .before .count-endings-arg9 .given .0 .1) (c .count-endings-arg10 .given .0 .1),
       s .pre .1,
-      table-room g _ (asked take .take-pairs-arg2 .given .0),
+      table-room (g .tabled) _ (asked take .take-pairs-arg2 .given .0),
       record {
         most = omega (arith, most, g .limit);
         timeRoom = omega (arith, most, g .limit, extras .before .before .count-endings-arg3 .given .0);
-        extraRoom = pair-rows g _ _ (omega (arith, most, g .limit)) (extras .count-endings-arg5 .given .0);
+        extraRoom = pair-rows (g .tabled) _ _ (omega (arith, most, g .limit)) (extras .count-endings-arg5 .given .0);
       },
     )
 
@@ -62,7 +62,7 @@ conclude-requires c κs =
     let take = took (feed .before .before .before) in
     let s = start (asked take .before) in
     let g = s .pre .0 in (
-      runs g (feed .before .before .conclude-arg .given .0) (feed .before .conclude-arg2 .given .0) (feed .conclude-arg3 .given .0 .1) (c .before .conclude-arg4 .given .0 .1) (c .conclude-arg5 .given .0 .1),
+      runs (g .tabled) (feed .before .before .conclude-arg .given .0) (feed .before .conclude-arg2 .given .0) (feed .conclude-arg3 .given .0 .1) (c .before .conclude-arg4 .given .0 .1) (c .conclude-arg5 .given .0 .1),
       s .pre .1,
       g .limit,
       omega (arith, take .take-pairs .ensures .most, g .limit),
@@ -75,7 +75,7 @@ returns c = λ f ready before.
     let s = start (asked take .before) in
     let g = s .pre .0 in
     let taken = take .take-pairs .ensures .pairs f ready in
-    let ends = count .count-endings .ensures .ends f _ (ready .stuck) (ready .frees) (lists-of f _ _ (g .test) before ready taken) in
+    let ends = count .count-endings .ensures .ends f _ (ready .stuck) (ready .frees) (lists-of f _ _ (g .tabled .test) before ready taken) in
     c .conclude .ensures f _ record {
       stuck = ready .stuck;
       frees = ready .frees;

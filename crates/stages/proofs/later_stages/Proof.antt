@@ -47,8 +47,8 @@ trace-requires c κs =
     let feed = state .before .before in
     let s = start (feed .before .before) in
     let g = s .pre .0 in (
-      runs g (feed .before .before .trace-arg .given .0) (feed .before .trace-arg2 .given .0) (feed .trace-arg3 .given .0 .1) (state .before .trace-arg4 .given .0 .1) (state .trace-arg5 .given .0 .1),
-      table-room g _ (c .before .trace-arg6 .given .0 .1),
+      runs (g .tabled) (feed .before .before .trace-arg .given .0) (feed .before .trace-arg2 .given .0) (feed .trace-arg3 .given .0 .1) (state .before .trace-arg4 .given .0 .1) (state .trace-arg5 .given .0 .1),
+      table-room (g .tabled) _ (c .before .trace-arg6 .given .0 .1),
       s .pre .1 .room,
       s .pre .1 .frees,
     )
@@ -58,21 +58,21 @@ open-units-requires c κs =
     let after = c .before .before .before in
     let s = begun (after .before) in
     let g = s .pre .0 in (
-      omega (arith, g .sizes .units, g .test .most),
-      omega (arith, g .sizes .outputs, g .circuit .outputs),
-      omega (arith, response-size (g .sizes), s .pre .1 .room, after .work .given),
+      omega (arith, g .tabled .sizes .units, g .tabled .test .most),
+      omega (arith, g .tabled .sizes .outputs, g .tabled .circuit .outputs),
+      omega (arith, response-size (g .tabled .sizes), s .pre .1 .room, after .work .given),
     )
 
 -- at how many units Nout is above 0
 above : (c : tie.After-open-units) (f : Fault) → let s = first c .args in Stuck 0 (s .hits .now) (s .masks .now) f → OpenUnits (s .c .now) (s .t .now) f (c .open-units .result)
-above c f stuck = let trace = traced c .before .trace .ensures in c .open-units .ensures .units _ _ f (first c .pre .0 .sizes) (trace .frees f stuck) (trace .shown f stuck)
+above c f stuck = let trace = traced c .before .trace .ensures in c .open-units .ensures .units _ _ f (first c .pre .0 .tabled .sizes) (trace .frees f stuck) (trace .shown f stuck)
 
 returns : tie.Need-returns
 returns c =
     let left = c .before .before in
     let s = first left in
     let g = s .pre .0 in record {
-      verdict = λ f stuck fault open-first. c .placed .ensures ∙ sym (graded-5 _ _ f open-first (g .circuit) (g .test) fault _ (above left f (stuck 0 (omega arith))) (c .before .if1 .taken) _ _);
+      verdict = λ f stuck fault open-first. c .placed .ensures ∙ sym (graded-5 _ _ f open-first (g .tabled .circuit) (g .tabled .test) fault _ (above left f (stuck 0 (omega arith))) (c .before .if1 .taken) _ _);
       stands = λ f stuck. standing-again _ (s .pre .1) (traced left .work .given) (traced left .before .trace .ensures .frees f stuck);
     }
 
@@ -85,10 +85,10 @@ expand-requires c κs =
     let left = states .before .before .before .before in
     let s = first left in
     let g = s .pre .0 in (
-      runs g (feed .before .before .expand-arg4 .given .0) (feed .before .expand-arg5 .given .0) (feed .expand-arg6 .given .0 .1) (state .before .expand-arg7 .given .0 .1) (state .expand-arg8 .given .0 .1),
+      runs (g .tabled) (feed .before .before .expand-arg4 .given .0) (feed .before .expand-arg5 .given .0) (feed .expand-arg6 .given .0 .1) (state .before .expand-arg7 .given .0 .1) (state .expand-arg8 .given .0 .1),
       omega (arith, s .pre .1 .room, traced left .work .given),
-      table-room g _ (states .expand-arg3 .given .0),
-      table-room g _ (c .expand-arg12 .given .0 .1),
+      table-room (g .tabled) _ (states .expand-arg3 .given .0),
+      table-room (g .tabled) _ (c .expand-arg12 .given .0 .1),
       omega (arith, units .expand-arg9 .given .0 .1),
       omega (arith, c .before .before .expand-arg10 .given .0 .1),
       omega (arith, c .before .expand-arg11 .given .0 .1),
@@ -96,22 +96,22 @@ expand-requires c κs =
 
 -- how many positions the walk has
 positions : (s : tie.Start) → s .args .job .flops * s .args .job .units ≡ L (s .args .c .now) (s .args .t .now) * F (s .args .c .now)
-positions s = product-as _ _ _ _ (s .pre .0 .sizes .flops) (s .pre .0 .sizes .units)
+positions s = product-as _ _ _ _ (s .pre .0 .tabled .sizes .flops) (s .pre .0 .tabled .sizes .units)
 
 mul-none : tie.Need-mul-none
 mul-none c =
     let s = first (opened (c .before) .before) in
-    omega (arith, positions s, mul-le-mul (s .pre .0 .test .most) (s .pre .0 .circuit .flipFlops))
+    omega (arith, positions s, mul-le-mul (s .pre .0 .tabled .test .most) (s .pre .0 .tabled .circuit .flipFlops))
 
 at-pair-requires : tie.Need-at-pair-requires
 at-pair-requires c κs =
     let s = first (opened (walked (c .before)) .before) in
-    (factor-some _ _ _ (c .if2 .taken), rw (s .pre .0 .sizes .flops) (flops-room _ _ (s .pre .0 .tables .flopTable)))
+    (factor-some _ _ _ (c .if2 .taken), rw (s .pre .0 .tabled .sizes .flops) (flops-room _ _ (s .pre .0 .tabled .tables .flopTable)))
 
 -- stage 2 gives no verdict
 second : (c : tie.Else1) (f : Fault) → let s = first (c .before) .args in
     Stuck 0 (s .hits .now) (s .masks .now) f → ValidFault (s .c .now) f → stage1 (s .c .now) (s .t .now) f ≡ none → stage2 (s .c .now) (s .t .now) f ≡ none
-second c f stuck fault open-first = let g = first (c .before) .pre .0 in stage2-none _ _ f open-first (g .circuit) (g .test) fault _ (above (c .before) f stuck) (c .if1 .left)
+second c f stuck fault open-first = let g = first (c .before) .pre .0 in stage2-none _ _ f open-first (g .tabled .circuit) (g .tabled .test) fault _ (above (c .before) f stuck) (c .if1 .left)
 
 same-length-2 : tie.Need-same-length-2
 same-length-2 c = traced (opened (walked (c .before .before)) .before) .work .given
@@ -126,7 +126,7 @@ returns-2 c =
     let trace = traced left .before .trace .ensures in
     let all = positions s in record {
       verdict = λ f stuck fault open-first.
-          c .at-pair .ensures ∙ pair-named _ _ _ _ (s .pre .0 .sizes .flops) (factor-some _ _ _ (c .before .if2 .taken)) (s .pre .0 .tables .flopTable)
+          c .at-pair .ensures ∙ pair-named _ _ _ _ (s .pre .0 .tabled .sizes .flops) (factor-some _ _ _ (c .before .if2 .taken)) (s .pre .0 .tabled .tables .flopTable)
           ∙ sym (graded-2 f stuck fault open-first (second else f (stuck 0 (omega arith)) fault open-first) trace (above left f (stuck 0 (omega arith))) (walk .expand .ensures) (deciding-as all (decide .deciding .ensures))
           (omega (arith, all, c .before .if2 .taken)) _ _);
       stands = λ f stuck. standing-again _ (s .pre .1) (traced left .work .given) (trace .frees f stuck);

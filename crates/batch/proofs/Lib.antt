@@ -1,0 +1,2 @@
+-- Laws of a batch.
+pub mod Laws

@@ -1,0 +1,2 @@
+-- What a batch of faults asks for and gives.
+pub mod Batch

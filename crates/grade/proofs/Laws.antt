@@ -1,0 +1,51 @@
+-- The fault-free responses, the room for them, and the records of a whole list.
+use mathlib.Core.Path.{_≡_, refl, sym, ap, _∙_}
+use mathlib.Core.List.{List}
+use Prim.Native.Nat.{ℕ, _+_, _*_, _≤_}
+use native.Mathlib.Omega.{arith}
+use native.Mathlib.Nat.{mul-le-mul-left, mul-add}
+use lib.ListN.{length}
+use Rattle.lists.specs.Scan.{gather}
+use Rattle.lists.specs.Field.{overwritten, Rows}
+use Rattle.lists.proofs.Field.{overwritten-none}
+use Rattle.model.specs.Inputs.{N, F, O, L, faultCount}
+use Rattle.model.specs.Refusals.{workBytes}
+use Rattle.model.specs.Accepted.{GradeReady}
+use Rattle.model.specs.Simulation.{noFault, powerUp, outputsAt, freeOutputs}
+use Rattle.model.specs.Grade.{gradeBytes}
+use Rattle.circuit.specs.Table.{Tables}
+use Rattle.job.specs.Job.{JobOf}
+use Rattle.job.specs.declared.Job.{Job}
+use Rattle.fault.proofs.Tables.{response-rows}
+use Rattle.stages.specs.Stages.{Gradable, Standing}
+use Rattle.batch.specs.Batch.{RecordsTo}
+
+-- number 13 asks for room enough
+pub work-room : (c t : List ℕ) (work : ℕ) → workBytes c t ≤ work → L c t * O c + L c t * O c ≤ work
+unfolding workBytes
+work-room c t work h =
+    let twice : L c t * (O c + O c) ≤ L c t * (4 * O c + 16 * F c + 8) = mul-le-mul-left (L c t) (omega arith) in
+    omega (arith, mul-add (L c t) (O c) (O c))
+
+-- the run of no fault
+pub free-rows : (c t table old : List ℕ) → table ≡ overwritten (gather (λ u. outputsAt c t noFault (powerUp c) u) (L c t)) old → Rows (O c) (L c t) table (λ u. freeOutputs c t u)
+unfolding freeOutputs
+free-rows c t table old e = response-rows c t noFault table old e
+
+-- what the stages ask for, of an accepted job
+pub gradable : {c t fs plan pins flops outs : List ℕ} {k work result : ℕ} {job : Job} → GradeReady c t fs plan k work result → JobOf c t job → Tables c pins flops outs → Gradable c t plan k job pins flops outs
+gradable ready of tables = record {
+  tabled = record { circuit = ready .inputs .circuit; test = ready .inputs .test; sizes = of; tables = tables };
+  wholePlan = ready .plan;
+  fewPairs = ready .pairs;
+  limit = ready .limit;
+}
+
+-- ---- the records in the result area
+pub records-none : (c t fs plan : List ℕ) (k : ℕ) (area : List ℕ) → RecordsTo c t fs plan k 0 area area
+unfolding gather
+records-none c t fs plan k area = record { all = sym (overwritten-none area) }
+
+pub records-all : {c t fs plan old area : List ℕ} {k n : ℕ} → n ≡ faultCount fs → RecordsTo c t fs plan k n old area → area ≡ overwritten (gradeBytes c t fs plan k) old
+unfolding gradeBytes
+records-all e r = rw (← e) (r .all)

@@ -1,0 +1,2 @@
+-- Laws of Grade.
+pub mod Laws

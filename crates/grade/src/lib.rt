@@ -1,0 +1,232 @@
+// The call Grade.
+ghost use mathlib.Core.List.{List};
+ghost use mathlib.Core.Path.{_≡_};
+ghost use Prim.Native.Nat.{ℕ, _+_, _*_, _<_, _≤_};
+ghost use lib.ListN.{length};
+ghost use Rattle.lists.specs.Field.{overwritten};
+ghost use Rattle.model.specs.Inputs.{O, L, faultCount};
+ghost use Rattle.model.specs.Accepted.{GradeReady, ValidInputs};
+ghost use Rattle.model.specs.Refusals.{gradeRefusal, unlessRefused};
+ghost use Rattle.model.specs.Grade.{gradeBytes, gradeAnswer, gradeArea};
+ghost use Rattle.model.specs.Promises.{Demand3};
+ghost use Rattle.faults.specs.Given.{Blank};
+ghost use Rattle.job.specs.Job.{answerOf, JobOf};
+ghost use Rattle.stages.specs.Stages.{Tabled, Gradable, Standing};
+use job::Job;
+use job::JobCheck;
+use job::Outcome;
+use stages::Counts;
+use stages::Extras;
+use stages::Feed;
+use stages::Hits;
+use stages::Masks;
+use stages::Row;
+use stages::State;
+use stages::Table;
+use stages::Times;
+use stages::Trials;
+use stages::Words;
+
+// The records of all faults of the list, batch by batch.
+fn grade_list(
+    c: &[u8],
+    job: Job,
+    t: &[u8],
+    fs: &[u8],
+    plan: &[u8],
+    k: usize,
+    pins: &[u16],
+    flops: &[usize],
+    outs: &[usize],
+    hits: &mut Hits,
+    masks: &mut Masks,
+    feed: &mut Feed,
+    words: &mut Words,
+    state: &mut State,
+    units: &mut Trials,
+    bits: &mut Trials,
+    row: &mut Row,
+    states: &mut Table,
+    list: &mut Table,
+    nout: &mut Counts,
+    times: &mut Times,
+    extras: &mut Extras,
+    work: &mut [u8],
+    result: &mut [u8],
+)
+    requires { ⌜ (Gradable (now c) (now t) (now plan) k job (now pins) (now flops) (now outs)) × (Standing (now c) (now t) (now work)) × (Blank (now hits) (now masks))
+        × (ValidInputs (now c) (now t) 0 32768 (now fs)) × (16 * faultCount (now fs) ≤ length (now result)) ⌝ }
+    ensures { λ _. ⌜ now (result .exit) ≡ overwritten (gradeBytes (now (c .entry)) (now (t .entry)) (now (fs .entry)) (now (plan .entry)) k) (now (result .entry)) ⌝ }
+{
+    let count = fs.len() / 4;
+    let mut from: usize = 0;
+    while from < count {
+        let size = tally::block(count - from);
+        batch::grade_batch(
+            c,
+            job,
+            t,
+            fs,
+            from,
+            size,
+            plan,
+            k,
+            pins,
+            flops,
+            outs,
+            hits,
+            masks,
+            feed,
+            words,
+            state,
+            units,
+            bits,
+            row,
+            states,
+            list,
+            nout,
+            times,
+            extras,
+            work,
+            result,
+        );
+        from += size;
+    }
+}
+
+// The fault-free responses, at the beginning of the work area.
+fn write_free(
+    c: &[u8],
+    job: Job,
+    t: &[u8],
+    pins: &[u16],
+    flops: &[usize],
+    outs: &[usize],
+    hits: &Hits,
+    masks: &Masks,
+    feed: &mut Feed,
+    words: &mut Words,
+    state: &mut State,
+    states: &mut Table,
+    work: &mut [u8],
+)
+    requires { ⌜ (Tabled (now c) (now t) job (now pins) (now flops) (now outs)) × (Blank (now hits) (now masks)) × (L (now c) (now t) * O (now c) + L (now c) (now t) * O (now c) ≤ length (now work)) ⌝ }
+    ensures { λ _. ⌜ Standing (now (c .entry)) (now (t .entry)) (now (work .exit)) ⌝ }
+{
+    run::power_up(c, job.flops, state);
+    run::write_run(
+        c,
+        job,
+        t,
+        0,
+        pins,
+        flops,
+        outs,
+        hits,
+        masks,
+        feed,
+        words,
+        state,
+        0,
+        work,
+        states,
+    );
+}
+
+// The records of an accepted job.
+fn grade_job(
+    c: &[u8],
+    job: Job,
+    t: &[u8],
+    fs: &[u8],
+    plan: &[u8],
+    k: usize,
+    work: &mut [u8],
+    result: &mut [u8],
+)
+    requires { ⌜ (GradeReady (now c) (now t) (now fs) (now plan) k (length (now work)) (length (now result))) × (JobOf (now c) (now t) job) ⌝ }
+    ensures { λ _. ⌜ now (result .exit) ≡ overwritten (gradeBytes (now (c .entry)) (now (t .entry)) (now (fs .entry)) (now (plan .entry)) k) (now (result .entry)) ⌝ }
+{
+    let mut pins = [0u16; 16384];
+    let mut flops = [0usize; 256];
+    let mut outs = [0usize; 256];
+    let mut hits = [0u8; 4096];
+    let mut masks = [0u64; 2560];
+    let mut feed = [0u64; 512];
+    let mut words = [0u64; 8192];
+    let mut state = [0u64; 512];
+    let mut units = [0usize; 32];
+    let mut bits = [0usize; 32];
+    let mut row = [0u8; 256];
+    let mut states = [0u8; 262144];
+    let mut list = [0u8; 262144];
+    let mut nout = [0usize; 1025];
+    let mut times = [0usize; 12];
+    let mut extras = [0u8; 6144];
+    circuit::list_tables(c, job.lines, &mut pins, &mut flops, &mut outs);
+    write_free(
+        c,
+        job,
+        t,
+        &pins,
+        &flops,
+        &outs,
+        &hits,
+        &masks,
+        &mut feed,
+        &mut words,
+        &mut state,
+        &mut states,
+        work,
+    );
+    grade_list(
+        c,
+        job,
+        t,
+        fs,
+        plan,
+        k,
+        &pins,
+        &flops,
+        &outs,
+        &mut hits,
+        &mut masks,
+        &mut feed,
+        &mut words,
+        &mut state,
+        &mut units,
+        &mut bits,
+        &mut row,
+        &mut states,
+        &mut list,
+        &mut nout,
+        &mut times,
+        &mut extras,
+        work,
+        result,
+    );
+}
+
+// A verdict record for each fault of the list; see README.md, Calls.
+pub fn grade(
+    circuit: &[u8],
+    test: &[u8],
+    faults: &[u8],
+    plan: &[u8],
+    k: usize,
+    work: &mut [u8],
+    result: &mut [u8],
+) -> Outcome
+    ensures answers { λ r. ⌜ answerOf r ≡ gradeAnswer (now (circuit .entry)) (now (test .entry)) (now (faults .entry)) (now (plan .entry)) k (length (now (work .entry))) (length (now (result .entry))) ⌝ }
+    ensures writes { λ r. ⌜ now (result .exit) ≡ gradeArea (now (circuit .entry)) (now (test .entry)) (now (faults .entry)) (now (plan .entry)) k (length (now (work .entry))) (now (result .entry)) ⌝ }
+    ensures keeps { λ r. ⌜ now (work .exit) ≡ unlessRefused (gradeRefusal (now (circuit .entry)) (now (test .entry)) (now (faults .entry)) (now (plan .entry)) k (length (now (work .entry))) (length (now (result .entry)))) (now (work .exit)) (now (work .entry)) ⌝ }
+    ensures promise { λ r. ⌜ Demand3 (now (circuit .entry)) (now (test .entry)) (now (faults .entry)) (now (plan .entry)) k (length (now (work .entry))) (now (result .entry)) (now (result .exit)) ⌝ }
+{
+    match job::check_grade(circuit, test, faults, plan, k, work.len(), result.len()) {
+        JobCheck::Broken { rule, at } => Outcome::Refused { rule, at },
+        JobCheck::Ready(job) => {
+            grade_job(circuit, job, test, faults, plan, k, work, result);
+            Outcome::Done(faults.len() / 4)
+        }
+    }
+}
