@@ -363,4 +363,3 @@ pub fn grade_batch(
         result,
     );
 }
-

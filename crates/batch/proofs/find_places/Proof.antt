@@ -26,8 +26,7 @@ first-places-requires : tie.Need-first-places-requires
 first-places-requires c κs =
     let state = c .before .before in
     let feed = state .before .before in
-    let s = start (given (feed .before .before .before .before .before) .before .before) in
-    (
+    let s = start (given (feed .before .before .before .before .before) .before .before) in (
       runs (s .pre .0) (feed .before .before .before .first-places-arg2 .given .0) (feed .before .first-places-arg4 .given .0) (feed .first-places-arg5 .given .0 .1) (state .before .first-places-arg6 .given .0 .1) (state .first-places-arg7 .given .0 .1),
       omega (arith, s .pre .1 .room),
       s .pre .4,

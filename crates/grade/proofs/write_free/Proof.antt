@@ -1,26 +1,47 @@
+use mathlib.Core.Path.{_≡_, refl, sym, ap, _∙_}
+use native.Mathlib.Omega.{arith}
+use Rattle.model.specs.Simulation.{noFault, powerUp}
+use Rattle.model.proofs.ThreeValued.{powerUp-three}
+use Rattle.run.proofs.Laws.{length-powerUp}
+use Rattle.faults.proofs.Laws.{blank-stuck}
+use Rattle.stages.proofs.Laws.{runs}
+use Rattle.grade.proofs.Laws.{free-rows}
 use borrow.Author.Needs.{needs}
 use Rattle.grade.proofs.write_free.Statement.{statement}
 use Rattle.grade.proofs.write_free.Tie as tie
-use Rattle.grade.proofs.write_free.Reads as reads
-use Rattle.grade.proofs.write_free.Lts as lts
-use Rattle.run.proofs.power_up.Reads as power-up-reads
-use Rattle.run.proofs.write_run.Reads as write-run-reads
 
--- src/lib.rt:116:5
-power-up-requires : tie.Need-power-up-requires
-power-up-requires c κs = search needs
+-- places
+abbrev start : tie.After-power-up → tie.Start
+start c = c .before .before .before .before .before .before .before .before
 
--- src/lib.rt:117:5
+abbrev powered : tie.After-write-run-arg → tie.After-power-up
+powered c = c .before
+
 write-run-requires : tie.Need-write-run-requires
-write-run-requires c κs = ?
+write-run-requires c κs =
+    let state = c .before .before in
+    let feed = state .before .before in
+    let hits = feed .before .before in
+    let s = start (powered hits) in (
+      runs (s .pre .0) (hits .write-run-arg .given .0) (feed .before .write-run-arg2 .given .0) (feed .write-run-arg3 .given .0 .1) (state .before .write-run-arg4 .given .0 .1) (state .write-run-arg5 .given .0 .1),
+      omega arith,
+      omega arith,
+      omega (arith, s .pre .2),
+      omega arith,
+    )
 
--- src/lib.rt:98:1
-same-length : tie.Need-same-length
-same-length c = search needs
-
--- src/lib.rt:98:1
 returns : tie.Need-returns
-returns c = ?
+returns c =
+    let ran = c .before .before in
+    let hits = ran .before .before .before .before .before .before .before in
+    let power = powered hits in
+    let s = start power in
+    let cs = s .args .c .now in record {
+      room = omega (arith, s .pre .2, c .before .work .given);
+      frees =
+          free-rows cs (s .args .t .now) _ _
+          (ran .write-run .ensures noFault (powerUp cs) (blank-stuck 0 _ _ (s .pre .1) (omega arith) (omega (arith, hits .write-run-arg .given .0))) (power .power-up .ensures 0) (length-powerUp cs) (powerUp-three cs) .0);
+    }
 
 pub write-free-spec : {M : Type 1} → statement M
-write-free-spec = tie.close (tie.spec power-up-requires write-run-requires same-length returns)
+write-free-spec = tie.close (tie.spec (λ c κs. search needs) write-run-requires (λ c. search needs) returns)
