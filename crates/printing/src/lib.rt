@@ -1,10 +1,13 @@
 // What a program needs around the calls: text, numbers and values on standard output, a file read into an area, and a look at an area
-// that is to have kept the byte it was made of, as `[170u8; 2048]` is. What is printed is tested, not proved.
+// that is to have kept the byte it was made of, as `[BLANK; 2048]` is. What is printed is tested, not proved.
 ghost use mathlib.Core.Path.{_≡_};
 ghost use mathlib.Core.Bool.{true};
 ghost use Rattle.io.specs.Counts.{Counts};
 ghost use Rattle.printing.specs.Only.{Only};
 use libc::STDOUT_FILENO;
+
+// The byte that a test program makes its areas of before a call.
+pub const BLANK: u8 = 170;
 
 // Bytes as they are.
 pub fn text(bytes: &[u8]) {
@@ -91,4 +94,24 @@ pub fn kept(area: &[u8], byte: u8) -> bool
         i += 1;
     }
     true
+}
+
+// The end of a job's line: whether the bytes that must stay have stayed.
+pub fn kept_or_changed(same: bool) {
+    if same {
+        text(b" kept\n");
+    } else {
+        text(b" CHANGED\n");
+    }
+}
+
+// The line of a refused job, which must leave every byte of both areas.
+pub fn refused_job(rule: u8, at: usize, work: &[u8], result: &[u8]) {
+    refused(rule, at);
+    kept_or_changed(basics::both(kept(work, BLANK), kept(result, BLANK)));
+}
+
+// The line of a last job that the file does not hold whole.
+pub fn cut_off() {
+    text(b"the last job is cut off\n");
 }

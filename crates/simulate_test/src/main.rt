@@ -5,22 +5,12 @@
 ghost use Prim.Native.Nat.{_+_, _<_, _≤_};
 ghost use lib.ListN.{length};
 use job::Outcome;
-
-// The byte that both areas hold at first.
-const BLANK: u8 = 170;
+use printing::BLANK;
 
 // How long the areas of a job may be.
 const WORK: usize = 40960;
 
 const RESULT: usize = 2048;
-
-fn print_kept(same: bool) {
-    if same {
-        printing::text(b" kept\n");
-    } else {
-        printing::text(b" CHANGED\n");
-    }
-}
 
 fn print_done(n: usize, result: &[u8; RESULT]) {
     printing::text(b"done ");
@@ -32,12 +22,12 @@ fn print_done(n: usize, result: &[u8; RESULT]) {
     }
     let area = &result[..];
     printing::values(&area[0..n]);
-    print_kept(printing::kept(&area[n..], BLANK));
+    printing::kept_or_changed(printing::kept(&area[n..], BLANK));
 }
 
+// Takes the arrays whole, so that nothing is to be shown of their lengths after a part was lent.
 fn print_refused(rule: u8, at: usize, work: &[u8; WORK], result: &[u8; RESULT]) {
-    printing::refused(rule, at);
-    print_kept(basics::both(printing::kept(work, BLANK), printing::kept(result, BLANK)));
+    printing::refused_job(rule, at, work, result);
 }
 
 fn run(circuit: &[u8], test: &[u8], faults: &[u8], room: usize, size: usize) {
@@ -75,7 +65,7 @@ fn run_job(jobs: &[u8], at: usize) -> usize
     let room = basics::word_at(jobs, at + 6);
     let size = basics::word_at(jobs, at + 8);
     if jobs.len() < end {
-        printing::text(b"the last job is cut off\n");
+        printing::cut_off();
         return jobs.len();
     }
     run(
