@@ -1,2 +1,3 @@
 -- What the exported calls return.
 pub mod Detected
+pub mod Answered

@@ -7,9 +7,20 @@ ghost use Rattle.model.specs.Accepted.{ValidInputs};
 ghost use Rattle.lanes.specs.Lane.{bit};
 ghost use Rattle.faults.specs.Given.{laneFault};
 ghost use Rattle.job.specs.Job.{JobOf};
+ghost use Rattle.model.specs.Grade.{gradeAnswer, gradeArea};
 ghost use Rattle.exported.specs.Detected.{opposed, detected};
+ghost use Rattle.exported.specs.Answered.{answered};
 use job::Job;
 use job::JobCheck;
+use job::Outcome;
+
+// What a call returns, in numbers: 0, 0 and how much it did; or 1 and the row that is broken, with its position.
+#[repr(C)]
+pub struct Answered {
+    pub refused: usize,
+    pub rule: usize,
+    pub number: usize,
+}
 
 // The faults of the list, one to a lane, each from the power-up state.
 fn detect(c: &[u8], job: Job, t: &[u8], fs: &[u8], free: &[u8]) -> u64
@@ -64,5 +75,33 @@ pub extern "C" fn balithoomai_detected(
             }
             detect(circuit, job, test, faults, free)
         }
+    }
+}
+
+// Grade, as programs in other languages call it.
+#[no_mangle]
+pub extern "C" fn balithoomai_grade(
+    circuit: &[u8],
+    test: &[u8],
+    faults: &[u8],
+    plan: &[u8],
+    k: usize,
+    work: &mut [u8],
+    result: &mut [u8],
+) -> Answered
+    ensures answers { λ r. ⌜ answered r ≡ gradeAnswer (now (circuit .entry)) (now (test .entry)) (now (faults .entry)) (now (plan .entry)) k (length (now (work .entry))) (length (now (result .entry))) ⌝ }
+    ensures writes { λ r. ⌜ now (result .exit) ≡ gradeArea (now (circuit .entry)) (now (test .entry)) (now (faults .entry)) (now (plan .entry)) k (length (now (work .entry))) (now (result .entry)) ⌝ }
+{
+    match grade::grade(circuit, test, faults, plan, k, work, result) {
+        Outcome::Done(number) => Answered {
+            refused: 0,
+            rule: 0,
+            number,
+        },
+        Outcome::Refused { rule, at } => Answered {
+            refused: 1,
+            rule: rule as usize,
+            number: at,
+        },
     }
 }

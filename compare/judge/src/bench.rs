@@ -1,0 +1,166 @@
+//! Larger jobs for measuring speed, each as a directory of four files; the verdicts of each are counted.
+
+use crate::bytes::{plan_bytes, LentJob};
+use crate::jobs::{every_fault, job, Shape};
+use crate::random::Random;
+use crate::search::{faults_of_all_verdicts, faults_that_reach_stage_3, faults_that_stage_1_ends, with_faults, Place};
+use std::{fs, io, path::Path, time::Instant};
+
+type Maker = fn() -> LentJob;
+
+/// The jobs, by name.
+pub const JOBS: [(&str, Maker); 7] = [
+    ("stage3_small", || many_trials(250, 30, 60, 40, 1)),
+    ("stage3_middle", || many_trials(500, 50, 120, 30, 1)),
+    ("stage3_large", || many_trials(1000, 80, 200, 20, 2)),
+    ("stage1", first_stage),
+    ("tiny", tiny),
+    ("stage5", many_sequences),
+    ("stage6", many_starts),
+];
+
+/// Writes every job and prints its size, k, verdicts and the time this grader takes.
+pub fn write(directory: &Path) -> io::Result<()> {
+    for (name, make) in JOBS {
+        let job = make();
+        write_files(&directory.join(name), &job)?;
+        report(name, &job);
+    }
+    Ok(())
+}
+
+fn write_files(directory: &Path, job: &LentJob) -> io::Result<()> {
+    fs::create_dir_all(directory)?;
+    let files = [("circuit", &job.circuit), ("test", &job.test), ("faults", &job.faults), ("plan", &job.plan)];
+    files.iter().try_for_each(|(name, bytes)| fs::write(directory.join(format!("{name}.dat")), bytes))
+}
+
+fn report(name: &str, job: &LentJob) {
+    let begun = Instant::now();
+    let records = job.records().expect("the job is accepted");
+    let milliseconds = begun.elapsed().as_secs_f64() * 1000.0;
+    let lines_of = |kind: u8| job.circuit.chunks_exact(12).filter(|record| record[0] == kind).count();
+    let (lines, inputs, flip_flops) = (job.circuit.len() / 12, lines_of(0), lines_of(1));
+    let time_units = job.test.len() / inputs;
+    let verdicts: Vec<usize> =
+        (1..=7).map(|verdict| records.iter().filter(|record| record[0] == verdict).count()).collect();
+    let most_taken = records.iter().map(|record| record[1]).max().unwrap_or(0);
+    println!(
+        "{name}: N {lines}, I {inputs}, F {flip_flops}, L {time_units}, k {}, {} faults, most taken {most_taken}, \
+         verdicts 1 to 7 {verdicts:?}, {milliseconds:.1} ms",
+        job.k,
+        records.len()
+    );
+}
+
+/// A circuit of so many lines in which many bits stay unknown; four faults in five reach stage 3.
+fn many_trials(lines: usize, flip_flops: usize, time_units: usize, faults: usize, seed: u64) -> LentJob {
+    let mut random = Random(seed);
+    let (inputs, watches) = (8, 20);
+    let shape = Shape {
+        inputs,
+        flip_flops,
+        gates: lines - inputs - flip_flops - watches - 1,
+        outputs: 6,
+        input_pins: 10,
+        flip_flop_pins: 40,
+        parity_gates: 30,
+        self_feeding: 5,
+        mixed: true,
+        watches,
+    };
+    let found = job(shape, time_units, 1, 6, random.next());
+    let mut reaching = faults_that_reach_stage_3(&some_faults(&found, 4000, &mut random));
+    reaching.truncate(faults * 4 / 5);
+    with_any_faults(&found, reaching, faults, &mut random)
+}
+
+/// The job with so many faults of its circuit, in any order.
+fn some_faults(job: &LentJob, count: usize, random: &mut Random) -> LentJob {
+    let mut faults = every_fault(&job.circuit);
+    random.shuffle(&mut faults);
+    faults.truncate(count);
+    with_faults(job, &faults)
+}
+
+/// These faults, filled up with any to so many, in any order.
+fn with_any_faults(job: &LentJob, mut chosen: Vec<Place>, faults: usize, random: &mut Random) -> LentJob {
+    let every = every_fault(&job.circuit);
+    while chosen.len() < faults {
+        chosen.push(random.pick(&every));
+    }
+    random.shuffle(&mut chosen);
+    with_faults(job, &chosen)
+}
+
+/// Flip-flops that inputs control, and five hundred faults most of which show in the plain response.
+fn first_stage() -> LentJob {
+    let mut random = Random(600);
+    let shape = Shape {
+        inputs: 30,
+        flip_flops: 40,
+        gates: 530,
+        outputs: 40,
+        input_pins: 35,
+        flip_flop_pins: 15,
+        parity_gates: 10,
+        self_feeding: 0,
+        mixed: true,
+        watches: 0,
+    };
+    let found = job(shape, 200, 1, 6, random.next());
+    let mut shown = faults_that_stage_1_ends(&some_faults(&found, 2000, &mut random));
+    shown.truncate(420);
+    with_any_faults(&found, shown, 500, &mut random)
+}
+
+fn tiny() -> LentJob {
+    let mut random = Random(8);
+    let shape = Shape { inputs: 1, flip_flops: 2, gates: 4, outputs: 1, watches: 2, ..Shape::SMALL };
+    let found = job(shape, 4, 1, 6, random.next());
+    faults_of_all_verdicts(&found, 4, &mut random)
+}
+
+/// Faults that take twelve pairs, with sequences most of which end late.
+fn many_sequences() -> LentJob {
+    let mut random = Random(12);
+    let shape = Shape { inputs: 6, flip_flops: 24, gates: 150, self_feeding: 35, watches: 8, ..Shape::SMALL };
+    loop {
+        let mut found = job(shape, 40, 1, 12, random.next());
+        mask_from(&mut found, 7, 25);
+        let pairs: Vec<_> = (0..400).map(|_| (random.below(30), random.below(24))).collect();
+        found.plan = plan_bytes(&pairs);
+        let mut reaching = faults_that_reach_stage_3(&some_faults(&found, 1500, &mut random));
+        reaching.truncate(10);
+        let found = with_faults(&found, &reaching);
+        let records = found.records().expect("the job is accepted");
+        if records.iter().filter(|record| record[1] == 12).count() >= 8 {
+            return found;
+        }
+    }
+}
+
+/// Twelve flip-flops and faults for which most starting states are tried, over many units.
+fn many_starts() -> LentJob {
+    let mut random = Random(13);
+    let shape = Shape { inputs: 6, flip_flops: 12, gates: 120, self_feeding: 30, watches: 8, ..Shape::SMALL };
+    loop {
+        let mut found = job(shape, 40, 1, 12, random.next());
+        mask_from(&mut found, 7, 25);
+        found.plan.clear();
+        let mut reaching = faults_that_reach_stage_3(&some_faults(&found, 1500, &mut random));
+        reaching.truncate(10);
+        let found = with_faults(&found, &reaching);
+        let records = found.records().expect("the job is accepted");
+        if records.iter().filter(|record| record[0] == 4 || record[7] > 500).count() >= 7 {
+            return found;
+        }
+    }
+}
+
+/// Holds the last input at 0 before this unit and at 1 from it on.
+fn mask_from(job: &mut LentJob, inputs: usize, unit: usize) {
+    for (u, record) in job.test.chunks_exact_mut(inputs).enumerate() {
+        record[inputs - 1] = (u >= unit) as u8;
+    }
+}

@@ -1,0 +1,68 @@
+//! A grader of stuck faults written straight from the scope, its test vectors, and jobs for measuring speed.
+
+mod bench;
+mod bytes;
+mod circuit;
+mod grade;
+mod hidden;
+mod implication;
+mod jobs;
+#[cfg(feature = "library")]
+mod measure;
+mod model_jobs;
+mod random;
+mod refusals;
+mod s27;
+mod search;
+mod simulation;
+mod specimens;
+mod stages;
+mod vectors;
+
+use bytes::{print_record, LentJob};
+use std::{env, fs, io, path::Path, process::ExitCode};
+
+fn main() -> ExitCode {
+    let arguments: Vec<String> = env::args().skip(1).collect();
+    let words: Vec<&str> = arguments.iter().map(String::as_str).collect();
+    let done = match words[..] {
+        ["specimens"] => check_specimens(),
+        ["vectors", directory] => vectors::write(Path::new(directory)),
+        ["bench-jobs", directory] => bench::write(Path::new(directory)),
+        #[cfg(feature = "library")]
+        ["measure"] => measure::measure(),
+        ["grade", directory, k] => grade_files(Path::new(directory), k),
+        _ => Err(io::Error::other("usage: judge specimens | vectors DIR | grade DIR K | bench-jobs DIR")),
+    };
+    match done {
+        Ok(()) => ExitCode::SUCCESS,
+        Err(error) => {
+            eprintln!("{error}");
+            ExitCode::FAILURE
+        }
+    }
+}
+
+/// Holds the grader to the eleven verdicts of the scope and to the stated results of the model's jobs.
+fn check_specimens() -> io::Result<()> {
+    let differences = [specimens::differences(), model_jobs::differences()].concat();
+    differences.iter().for_each(|difference| println!("{difference}"));
+    if differences.is_empty() {
+        println!("all eleven specimen verdicts and all {} jobs of the model agree", model_jobs::jobs().len());
+        return Ok(());
+    }
+    Err(io::Error::other("some verdicts differ"))
+}
+
+/// Prints the records of the job in a directory, or the refusal; a missing file is empty.
+fn grade_files(directory: &Path, k: &str) -> io::Result<()> {
+    let k = k.parse().map_err(io::Error::other)?;
+    let file = |name: &str| fs::read(directory.join(name)).unwrap_or_default();
+    let [circuit, test, faults, plan] = ["circuit.dat", "test.dat", "faults.dat", "plan.dat"].map(file);
+    let job = LentJob { work_len: usize::MAX, ..LentJob::new(circuit, test, faults, plan, k) };
+    match job.records() {
+        Ok(records) => records.iter().for_each(|record| print!("{}", print_record(record))),
+        Err((rule, position)) => println!("refused {rule} {position}"),
+    }
+    Ok(())
+}

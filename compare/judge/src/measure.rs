@@ -1,0 +1,89 @@
+//! The library's Grade beside this grader, on the same jobs in one run: first that both answer alike, then the time of each.
+
+use crate::bench;
+use crate::bytes::LentJob;
+use crate::grade::grade;
+use std::{hint::black_box, io, time::Instant};
+
+/// What an exported call returns: 0, 0 and how much it did, or 1, the rule and its position.
+#[repr(C)]
+struct Answered {
+    refused: usize,
+    rule: usize,
+    number: usize,
+}
+
+#[rustfmt::skip]
+extern "C" {
+    fn balithoomai_grade(
+        circuit: *const u8, circuit_len: usize, test: *const u8, test_len: usize,
+        faults: *const u8, faults_len: usize, plan: *const u8, plan_len: usize, k: usize,
+        work: *mut u8, work_len: usize, result: *mut u8, result_len: usize,
+    ) -> Answered;
+}
+
+/// The two areas of a job, made once.
+struct Areas {
+    work: Vec<u8>,
+    result: Vec<u8>,
+}
+
+impl Areas {
+    fn of(job: &LentJob) -> Areas {
+        Areas { work: vec![0; job.work_len], result: vec![0; job.result_len] }
+    }
+
+    fn by_library(&mut self, job: &LentJob) -> Result<usize, (u8, usize)> {
+        let LentJob { circuit, test, faults, plan, k, .. } = job;
+        let Areas { work, result } = self;
+        // Each pointer goes with the length of the list it points to, and only the two areas are written.
+        #[rustfmt::skip]
+        let answered = unsafe {
+            balithoomai_grade(
+                circuit.as_ptr(), circuit.len(), test.as_ptr(), test.len(),
+                faults.as_ptr(), faults.len(), plan.as_ptr(), plan.len(), *k,
+                work.as_mut_ptr(), work.len(), result.as_mut_ptr(), result.len(),
+            )
+        };
+        match answered {
+            Answered { refused: 0, number, .. } => Ok(number),
+            Answered { rule, number, .. } => Err((rule as u8, number)),
+        }
+    }
+
+    fn by_judge(&mut self, job: &LentJob) -> Result<usize, (u8, usize)> {
+        let LentJob { circuit, test, faults, plan, k, work_len, .. } = job;
+        grade(circuit, test, faults, plan, *k, *work_len, &mut self.result)
+    }
+}
+
+/// Whether answer and result area are the same.
+fn alike(job: &LentJob) -> bool {
+    let (mut library, mut judge) = (Areas::of(job), Areas::of(job));
+    library.by_library(job) == judge.by_judge(job) && library.result == judge.result
+}
+
+fn seconds(call: impl FnOnce() -> Result<usize, (u8, usize)>) -> f64 {
+    let begun = Instant::now();
+    drop(black_box(call()));
+    begun.elapsed().as_secs_f64()
+}
+
+/// Prints for each job the milliseconds of this grader and of the library, each the least of many calls by turns, and their ratio.
+pub fn measure() -> io::Result<()> {
+    for (name, make) in bench::JOBS {
+        let job = make();
+        if !alike(&job) {
+            return Err(io::Error::other(format!("{name}: the answers differ")));
+        }
+        let (mut library, mut judge) = (Areas::of(&job), Areas::of(&job));
+        let (mut ours, mut theirs) = (f64::INFINITY, f64::INFINITY);
+        let begun = Instant::now();
+        while begun.elapsed().as_secs_f64() < 2.0 || ours == f64::INFINITY {
+            ours = ours.min(seconds(|| library.by_library(&job)));
+            theirs = theirs.min(seconds(|| judge.by_judge(&job)));
+        }
+        println!("{name}: {:.3} ms, library {:.3} ms, {:.1} times as fast", theirs * 1e3, ours * 1e3, theirs / ours);
+    }
+    Ok(())
+}
