@@ -65,7 +65,7 @@ fn alike(job: &LentJob) -> bool {
 
 fn seconds(call: impl FnOnce() -> Result<usize, (u8, usize)>) -> f64 {
     let begun = Instant::now();
-    drop(black_box(call()));
+    let _ = black_box(call());
     begun.elapsed().as_secs_f64()
 }
 

@@ -5,29 +5,36 @@ use mathlib.Core.List.{List, _++_}
 use mathlib.Core.Option.{none, some, orElse, Option·getD}
 use Prim.Native.Nat.{ℕ, _+_, _*_, _-_, _<_, _≤_}
 use native.Mathlib.Omega.{arith}
-use borrow.Author.Tests.{lt-ltb}
+use borrow.Author.Tests.{lt-ltb, ltb-false}
 use lib.ListN.{getD, length, take, drop}
 use Rattle.lists.specs.Field.{overwritten, Rows}
 use Rattle.model.specs.Inputs.{N, O, L, Fault, faultCount, faultAt}
 use Rattle.model.specs.Accepted.{ValidInputs}
 use Rattle.model.specs.Simulation.{powerUp, freeOutputs}
+use Rattle.model.specs.Expansion.{nout}
 use Rattle.model.specs.Grade.{Verdict, recordBytes, placed, atPair, stage1, beforeStage5, grade}
 use Rattle.lanes.specs.Lane.{bit, Lane}
+use Rattle.unit.specs.Unit.{Stuck}
+use Rattle.plain.specs.declared.Firsts.{Firsts}
 use Rattle.plain.specs.Places.{Places}
 use Rattle.faults.specs.Given.{Batch, laneFault, Given}
 use Rattle.record.proofs.Laws.{record-behind}
-use Rattle.batch.specs.Batch.{PlaceOf, Found, RecordsTo}
+use Rattle.batch.specs.Batch.{FirstOf, Found, RecordsTo}
 
-module _ (c t : List ℕ) (f : Fault) (found lane : ℕ) (times lines : List ℕ) (place : PlaceOf c t f found lane times lines) where
+module _ (c t : List ℕ) (f : Fault) (firsts : Firsts) (lane : ℕ) (times lines : List ℕ) (known : FirstOf c t f firsts lane times lines) where
   -- the lane has a place
-  pub graded-1 : bit lane found ≡ true → (p : List ℕ) (k : ℕ) → placed 1 (getD times lane 0) (getD lines lane 0) ≡ grade c t f p k
+  pub graded-1 : bit lane (firsts .found) ≡ true → (p : List ℕ) (k : ℕ) → placed 1 (getD times lane 0) (getD lines lane 0) ≡ grade c t f p k
   unfolding grade beforeStage5 stage1 atPair orElse
-  graded-1 e p k = rw (place .first, e)
+  graded-1 e p k = rw (known .place, e)
 
   -- it has none
-  pub open-first : bit lane found ≡ false → stage1 c t f ≡ none
+  pub open-first : bit lane (firsts .found) ≡ false → stage1 c t f ≡ none
   unfolding stage1 atPair
-  open-first e = rw (place .first, e)
+  open-first e = rw (known .place, e)
+
+  -- and nothing is left to show
+  pub none-left : bit lane (firsts .found) ≡ false → bit lane (firsts .left) ≡ false → nout c t f 0 ≡ 0
+  none-left e l = omega (arith, ltb-false 0 (nout c t f 0) (sym (known .left e) ∙ l))
 
 module _ {c t fs : List ℕ} {from count : ℕ} (valid : ValidInputs c t 0 32768 fs) (few : count ≤ 64) (inside : from + count ≤ faultCount fs) where
   pub batch-of : (n : ℕ) → n ≡ 4096 → Batch fs from count n
@@ -39,11 +46,13 @@ module _ {c t fs : List ℕ} {from count : ℕ} (valid : ValidInputs c t 0 32768
     value = λ s h. let fault = valid .fault (from + s) (omega arith) in omega (arith, fault .value);
   }
 
-  pub found-of : {free hits masks state times lines : List ℕ} {r : ℕ} → Given fs from count hits masks → ((lane : ℕ) → Lane lane state (powerUp c)) → Rows (O c) (L c t) free (λ u. freeOutputs c t u)
+  pub found-of : {free hits masks state times lines : List ℕ} {r : Firsts} → Given fs from count hits masks → ((lane : ℕ) → Lane lane state (powerUp c)) → Rows (O c) (L c t) free (λ u. freeOutputs c t u)
       → Places c t free count hits masks state times lines r → Found c t fs from count r times lines
   unfolding laneFault
-  found-of given powered frees places = record {
-    place = λ lane h. record { first = places .first lane (faultAt fs (from + lane)) h (rw (lt-ltb lane count h) at (given .lanes lane (omega arith))) (powered lane) frees };
+  found-of {hits = hits} {masks = masks} given powered frees places = record {
+    of = λ lane h.
+        let stuck : Stuck lane hits masks (faultAt fs (from + lane)) = rw (lt-ltb lane count h) at (given .lanes lane (omega arith)) in
+        record { place = places .first lane _ h stuck (powered lane) frees; left = places .left lane _ h stuck (powered lane) frees };
   }
 
 -- ---- the records in an area

@@ -10,6 +10,7 @@ ghost use Rattle.faults.specs.Given.{Blank};
 ghost use Rattle.stages.specs.Stages.{Tabled, Gradable, Standing};
 ghost use Rattle.batch.specs.Batch.{Settled, Decided, Found, Recorded};
 use job::Job;
+use plain::Firsts;
 use record::Verdict;
 use stages::Counts;
 use stages::Extras;
@@ -87,7 +88,7 @@ fn settle(
     verdict
 }
 
-// The verdict of fault j, whose lane of stage 1 is in `found` if it has a place.
+// The verdict of fault j, of which stage 1 has found what there is: its place; or that nothing is left to show, which is stage 2's verdict.
 fn grade_fault(
     c: &[u8],
     job: Job,
@@ -96,7 +97,7 @@ fn grade_fault(
     j: usize,
     plan: &[u8],
     k: usize,
-    found: u64,
+    firsts: Firsts,
     lane: usize,
     moments: &Places,
     lines: &Places,
@@ -120,11 +121,14 @@ fn grade_fault(
 ) -> Verdict
     requires { ⌜ (Gradable (now c) (now t) (now plan) k job (now pins) (now flops) (now outs)) × (Standing (now c) (now t) (now work)) × (Blank (now hits) (now masks))
         × (4 * j + 4 ≤ length (now fs)) × (ValidFault (now c) (faultAt (now fs) j)) × (lane < 64) ⌝ }
-    ensures { λ r. ⌜ Decided (now (c .entry)) (now (t .entry)) (faultAt (now (fs .entry)) j) (now (plan .entry)) k found lane (now (moments .entry)) (now (lines .entry))
+    ensures { λ r. ⌜ Decided (now (c .entry)) (now (t .entry)) (faultAt (now (fs .entry)) j) (now (plan .entry)) k firsts lane (now (moments .entry)) (now (lines .entry))
         (now (hits .exit)) (now (masks .exit)) (now (work .exit)) r ⌝ }
 {
-    if tally::has_lane(found, lane) {
+    if tally::has_lane(firsts.found, lane) {
         return record::placed(1, moments[lane], lines[lane]);
+    }
+    if !tally::has_lane(firsts.left, lane) {
+        return record::placed(5, 0, 0);
     }
     settle(
         c,
@@ -154,7 +158,7 @@ fn grade_fault(
     )
 }
 
-// The records of a batch, whose places stage 1 has found.
+// The records of a batch, of which stage 1 has found what there is.
 fn write_batch(
     c: &[u8],
     job: Job,
@@ -164,7 +168,7 @@ fn write_batch(
     count: usize,
     plan: &[u8],
     k: usize,
-    found: u64,
+    firsts: Firsts,
     moments: &Places,
     lines: &Places,
     pins: &[u16],
@@ -188,7 +192,7 @@ fn write_batch(
 )
     requires { ⌜ (Gradable (now c) (now t) (now plan) k job (now pins) (now flops) (now outs)) × (Standing (now c) (now t) (now work)) × (Blank (now hits) (now masks))
         × (ValidInputs (now c) (now t) 0 32768 (now fs)) × (count ≤ 64) × (from + count ≤ faultCount (now fs)) × (16 * faultCount (now fs) ≤ length (now result))
-        × (Found (now c) (now t) (now fs) from count found (now moments) (now lines)) ⌝ }
+        × (Found (now c) (now t) (now fs) from count firsts (now moments) (now lines)) ⌝ }
     ensures { λ _. ⌜ Recorded (now (c .entry)) (now (t .entry)) (now (fs .entry)) (now (plan .entry)) k from (from + count) (now (result .entry)) (now (hits .exit)) (now (masks .exit)) (now (work .exit)) (now (result .exit)) ⌝ }
 {
     let mut lane: usize = 0;
@@ -202,7 +206,7 @@ fn write_batch(
             j,
             plan,
             k,
-            found,
+            firsts,
             lane,
             moments,
             lines,
@@ -230,7 +234,7 @@ fn write_batch(
     }
 }
 
-// Stage 1 of a batch, one fault to a lane: the lanes that have a place, whose unit and line are noted.
+// Stage 1 of a batch, one fault to a lane: the lanes that have a place, whose unit and line are noted, and those that have something left to show.
 fn find_places(
     c: &[u8],
     job: Job,
@@ -249,14 +253,14 @@ fn find_places(
     state: &mut State,
     moments: &mut Places,
     lines: &mut Places,
-) -> u64
+) -> Firsts
     requires { ⌜ (Tabled (now c) (now t) job (now pins) (now flops) (now outs)) × (Standing (now c) (now t) (now free)) × (Blank (now hits) (now masks))
         × (ValidInputs (now c) (now t) 0 32768 (now fs)) × (count ≤ 64) × (from + count ≤ faultCount (now fs)) ⌝ }
     ensures { λ r. ⌜ (Blank (now (hits .exit)) (now (masks .exit))) × (Found (now (c .entry)) (now (t .entry)) (now (fs .entry)) from count r (now (moments .exit)) (now (lines .exit))) ⌝ }
 {
     faults::give_batch(fs, from, count, hits, masks);
     run::power_up(c, job.flops, state);
-    let found = plain::first_places(
+    let firsts = plain::first_places(
         c,
         job,
         t,
@@ -274,7 +278,7 @@ fn find_places(
         lines,
     );
     faults::take_batch(fs, from, count, hits, masks);
-    found
+    firsts
 }
 
 // A batch: its places by stage 1, and then its records.
@@ -312,7 +316,7 @@ pub fn grade_batch(
 {
     let mut moments = [0usize; 64];
     let mut lines = [0usize; 64];
-    let found = find_places(
+    let firsts = find_places(
         c,
         job,
         t,
@@ -340,7 +344,7 @@ pub fn grade_batch(
         count,
         plan,
         k,
-        found,
+        firsts,
         &moments,
         &lines,
         pins,

@@ -8,10 +8,10 @@ use native.Mathlib.Nat.{div-div-eq-div-mul}
 use lib.Pow.{pow-add}
 use lib.Dec.{eqb}
 use lib.ListN.{getD, length, take, drop, length-drop, drop-of-length-le}
-use lib.Seq.{take-at, take-take, length-take-le}
+use lib.Seq.{take-at, take-take}
 use borrow.Author.Tests.{eq-eqb, ne-eqb}
 use Rattle.lists.specs.Field.{overwritten, rowOf}
-use Rattle.lists.proofs.Field.{lent, part-taken}
+use Rattle.lists.proofs.Field.{lent, part-taken, length-row}
 use Rattle.lists.proofs.Tests.{by-eq}
 use Rattle.model.specs.Accepted.{ThreeValued}
 use Rattle.model.specs.Values.{giveRow, someOppose}
@@ -74,7 +74,7 @@ pub extra-made : (size u : ℕ) (states st row row′ : List ℕ) → size * u +
 unfolding overwritten
 extra-made size u states st row row′ fits long e =
     let part = part-taken states size u u refl fits in
-    let all : length (rowOf size states u) ≡ size = (unfold rowOf in length-take-le size (drop (size * u) states) (rw length-drop (omega arith))) in
+    let all : length (rowOf size states u) ≡ size = length-row size u states fits in
     rw (e, ← part) (take-at (whereX (rowOf size states u) st) _ size (length-whereX (rowOf size states u) st (all ∙ sym long) ∙ all))
 
 -- the same of equal rows

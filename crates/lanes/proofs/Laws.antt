@@ -6,12 +6,12 @@ use Prim.Native.Nat.{ℕ, zero, suc, _/_, _+_, _*_, _%_, _^_, _<_, _≤_}
 use native.Mathlib.Omega.{arith}
 use native.Mathlib.Decide.{decLe}
 use lib.Dec.{eqb}
-use borrow.Author.Tests.{eqb-true, eq-eqb, lt-leb}
+use borrow.Author.Tests.{eqb-true, eq-eqb, lt-leb, le-leb}
 use lib.ListN.{getD, length, set, length-set, length-append, List·getD-append}
 use lib.Seq.{getD-at, getD-set-same, getD-set-other}
 use lib.Bits.{bitAnd, bitOr, bitXor}
 use Rattle.lists.proofs.Tests.{by-test}
-use Rattle.model.specs.Values.{isSpecified, invert, andPair, xorPair, andOf, orOf, invertAll, xorOf, evenGate, invertIf, opposes, give}
+use Rattle.model.specs.Values.{X, isSpecified, invert, andPair, xorPair, andOf, orOf, invertAll, xorOf, evenGate, invertIf, opposes, give}
 use Rattle.lanes.specs.declared.Lanes.{Lanes}
 use Rattle.lanes.specs.Lane.{bit, is0, is1, Shows, Holds, Conflict, lanesAt, At, stored, Room, turnedIf, Lane, Given}
 use Rattle.lanes.proofs.Bits.{bit-and, bit-or, bit-xor, bit-without, bit-none, bit-all, bit-one, xorB, other-odd, other-even}
@@ -326,6 +326,21 @@ unfolding opposes
 opposing-X t v zero h = absurd (let z : ⊥ = omega arith in z)
 opposing-X t v (suc zero) h = absurd (let z : ⊥ = omega arith in z)
 opposing-X t v (suc (suc g)) h = bit-none t
+
+-- X, where a value is specified
+neither : (v : ℕ) → v < 3 → xorB (is0 v || is1 v) true ≡ eqb v X
+unfolding is0 is1 xorB
+neither zero h = refl
+neither (suc zero) h = refl
+neither (suc (suc zero)) h = refl
+neither (suc (suc (suc v))) h = absurd (let z : ⊥ = omega arith in z)
+
+module _ (t g v : ℕ) where
+  pub unknown-X : 1 < g → bit t 0 ≡ (isSpecified g && eqb v X)
+  unknown-X h = rw (lt-leb g 1 h) (bit-none t)
+
+  pub unknown-specified : (z o : ℕ) → g ≤ 1 → t < 64 → v < 3 → Shows t z o v → bit t (bitXor (bitOr z o) 0xffffffffffffffff) ≡ (isSpecified g && eqb v X)
+  unknown-specified z o h low three s = rw (le-leb g 1 h) (bit-xor t (bitOr z o) 0xffffffffffffffff ∙ rw (bit-or t z o, bit-all t low, s .zero?, s .one?) (neither v three))
 
 -- ---- giving a value
 is-give : (v w : ℕ) → v < 3 → w < 3 → opposes v w ≡ false → ((is0 v || is0 w) ≡ is0 (give v w)) × ((is1 v || is1 w) ≡ is1 (give v w))

@@ -173,6 +173,16 @@ impl Lanes {
         }
     }
 
+    // The lanes in which this is X where the value is specified.
+    pub fn unknown(self, value: u8) -> u64
+        ensures { λ r. ⌜ ((t v : ℕ) → t < 64 → v < 3 → Holds t self v → bit t r ≡ (isSpecified value && eqb v X)) ⌝ }
+    {
+        if 1 < value {
+            return 0;
+        }
+        (self.zeros | self.ones) ^ 0xffff_ffff_ffff_ffff
+    }
+
     // The value in lane t.
     pub fn lane(self, t: usize) -> u8
         requires { ⌜ t < 64 ⌝ }

@@ -128,3 +128,7 @@ rows-written row size count table old each e = record {
       ∙ take-append-le size (drop (size * u) (gather row count)) _ left
       ∙ gather-part row size each count u h;
 }
+
+pub length-row : (size u : ℕ) (table : List ℕ) → size * u + size ≤ length table → length (rowOf size table u) ≡ size
+unfolding rowOf
+length-row size u table h = length-take-le size (drop (size * u) table) (rw length-drop (omega arith))

@@ -1,3 +1,4 @@
 -- Laws of the places.
 pub mod Noted
+pub mod Left
 pub mod Scanned

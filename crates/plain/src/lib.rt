@@ -1,5 +1,6 @@
 // Stage 1 of Grade for up to 64 faults at once, one to a lane: the first place at which an output opposes what the fault-free circuit shows,
-// by time unit and in it by line. Once every lane has its place the run ends.
+// by time unit and in it by line. Once every lane has its place the run ends. On the way the same outputs tell stage 2's condition of the
+// lanes that have none: whether some place is specified fault-free and X faulty.
 ghost use mathlib.Core.Path.{_≡_};
 ghost use Prim.Native.Nat.{ℕ, _*_, _<_, _≤_};
 ghost use lib.Dec.{ltb};
@@ -36,7 +37,13 @@ fn note(new: u64, u: usize, line: usize, times: &mut [usize], lines: &mut [usize
     }
 }
 
-// The lanes below count that have a place, whose time and line are noted.
+// The lanes that have a place, and those with an output that is X where its fault-free value is specified.
+pub struct Firsts {
+    pub found: u64,
+    pub left: u64,
+}
+
+// The lanes below count that have a place, whose time and line are noted; of those that have none, which have something left to show.
 pub fn first_places(
     c: &[u8],
     job: Job,
@@ -53,13 +60,14 @@ pub fn first_places(
     state: &mut [u64],
     times: &mut [usize],
     lines: &mut [usize],
-) -> u64
+) -> Firsts
     requires { ⌜ (Runnable (now c) (now t) job (now pins) (now flops) (now outs) (now hits) (now masks) (now feed) (now words) (now state)) × (L (now c) (now t) * O (now c) ≤ length (now free))
         × (count ≤ 64) × (64 ≤ length (now times)) × (64 ≤ length (now lines)) ⌝ }
     ensures { λ r. ⌜ Places (now (c .entry)) (now (t .entry)) (now (free .entry)) count (now (hits .entry)) (now (masks .entry)) (now (state .entry)) (now (times .exit)) (now (lines .exit)) r ⌝ }
 {
     let wanted = tally::first_lanes(count);
     let mut found: u64 = 0;
+    let mut left: u64 = 0;
     let mut u: usize = 0;
     'units: while u < job.units {
         let at = job.outputs * u;
@@ -79,7 +87,10 @@ pub fn first_places(
         let mut o: usize = 0;
         while o < job.outputs {
             let n = outs[o];
-            let new = lanes::read(words, n).opposing(free[at + o]) & (wanted ^ found);
+            let x = lanes::read(words, n);
+            let response = free[at + o];
+            let new = x.opposing(response) & (wanted ^ found);
+            left = left | x.unknown(response);
             note(new, u, n, times, lines);
             found = found | new;
             if found == wanted {
@@ -90,5 +101,5 @@ pub fn first_places(
         unit::next_state(c, flops, job.flops, hits, masks, words, state);
         u += 1;
     }
-    found
+    Firsts { found, left }
 }

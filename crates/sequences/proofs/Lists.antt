@@ -5,8 +5,8 @@ use mathlib.Core.Bool.{Bool, true, false, cond, true≢false}
 use mathlib.Core.List.{List, [], _∷_}
 use lib.Dec.{eqb, leb}
 use borrow.Author.Tests.{eqb-true, eq-eqb, leb-false, lt-leb}
-use lib.ListN.{getD, length, take, drop, replicate, length-drop}
-use lib.Seq.{take-length, length-take-le, drop-length, drop-cons}
+use lib.ListN.{getD, length, take, drop, replicate}
+use lib.Seq.{take-length, drop-length, drop-cons}
 use lib.Pow.{shr-shr}
 use native.Mathlib.Numerals.{add-one}
 use native.Mathlib.Omega.{arith}
@@ -14,7 +14,7 @@ use native.Mathlib.Nat.{div-one}
 use Rattle.lists.specs.Field.{rowOf, Rows}
 use Rattle.lists.proofs.Tests.{by-test, cond-cases, or-left-false, or-right-false}
 use Rattle.lists.proofs.Scan.{getD-any}
-use Rattle.lists.proofs.Field.{part-row, row-fits}
+use Rattle.lists.proofs.Field.{part-row, row-fits, length-row}
 use Rattle.rows.proofs.Laws.{length-giveRow}
 use Rattle.model.specs.Inputs.{F, L, Fault}
 use Rattle.model.specs.Values.{X, give, giveRow, hasConflict}
@@ -148,11 +148,7 @@ pub picked-long : (lane ones n : ℕ) (low high new : List ℕ) → length low �
 picked-long lane ones n low high new l h isLow isHigh = by-test (bit lane ones) (λ e. ap length (isHigh e) ∙ h) (λ e. ap length (isLow e) ∙ l)
 
 -- ---- the list of a sequence
--- row u of a table, and the part that is lent for it
-pub length-row : (size u : ℕ) (table : List ℕ) → size * u + size ≤ length table → length (rowOf size table u) ≡ size
-unfolding rowOf
-length-row size u table h = length-take-le size (drop (size * u) table) (rw length-drop (omega arith))
-
+-- the part that is lent for row u of a table
 pub length-part : (size u : ℕ) (table : List ℕ) → size * u + size ≤ length table → length (take (size * u + size - size * u) (drop (size * u) table)) ≡ size
 length-part size u table h = ap length (part-row table size size u refl) ∙ length-row size u table h
 

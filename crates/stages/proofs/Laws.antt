@@ -37,16 +37,14 @@ use Rattle.stages.specs.Stages.{Tabled, Standing, Deciding}
 
 module _ (c t : List ℕ) (f : Fault) (open-first : stage1 c t f ≡ none) where
   -- ---- stage 2
-  module _ (circuit : ValidCircuit c) (test : ValidTest c t) (fault : ValidFault c f) (left : ℕ) (above : OpenUnits c t f left) where
-    pub graded-5 : left ≡ 0 → (p : List ℕ) (k : ℕ) → grade c t f p k ≡ placed 5 0 0
+  module _ (circuit : ValidCircuit c) (test : ValidTest c t) (fault : ValidFault c f) where
+    pub graded-5 : nout c t f 0 ≡ 0 → (p : List ℕ) (k : ℕ) → grade c t f p k ≡ placed 5 0 0
     unfolding grade beforeStage5 stage2 orElse
-    graded-5 e p k =
-        let zero : nout c t f 0 ≡ 0 = above .zero 0 (omega arith) (test .some) in
-        rw (open-first, both-open-somewhere c t f circuit test fault, zero)
+    graded-5 zero p k = rw (open-first, both-open-somewhere c t f circuit test fault, zero)
 
-    pub stage2-none : (left ≡ 0 → ⊥) → stage2 c t f ≡ none
+    pub stage2-none : 0 < nout c t f 0 → stage2 c t f ≡ none
     unfolding stage2
-    stage2-none e = rw (both-open-somewhere c t f circuit test fault, lt-ltb 0 (nout c t f 0) (above .above 0 (omega arith)))
+    stage2-none some-open = rw (both-open-somewhere c t f circuit test fault, lt-ltb 0 (nout c t f 0) some-open)
 
 -- ---- what the steps ask for
 pub flops-room : (c flops : List ℕ) → Listed (flipFlops c) flops → F c ≤ length flops

@@ -11,7 +11,7 @@ use lib.ListN.{getD, length, take, drop, length-drop}
 use lib.Seq.{getD-take, getD-drop, drop-cons, drop-length, length-take-le}
 use borrow.Author.Tests.{eqb-true, ltb-true, le-leb, lt-leb, lt-ltb, le-ltb}
 use Rattle.lists.specs.Field.{rowOf, Rows}
-use Rattle.lists.proofs.Field.{row-fits, part-taken}
+use Rattle.lists.proofs.Field.{row-fits, part-taken, length-row}
 use Rattle.lists.proofs.Scan.{getD-any}
 use Rattle.lists.proofs.Tests.{by-test, and-left, and-right}
 use Rattle.model.specs.Inputs.{F, L, Fault}
@@ -20,7 +20,6 @@ use Rattle.model.specs.Implication.{extra}
 use Rattle.model.specs.Expansion.{nout, stateRow}
 use Rattle.model.specs.Sequences.{overlaps, outputsLeft, touches, takes, takeNext}
 use Rattle.sequences.specs.Ends.{Taken}
-use Rattle.sequences.proofs.Lists.{length-row}
 use Rattle.pending.specs.Pending.{OpenUnits}
 use Rattle.take.specs.Take.{mayTake, meetsRow}
 use Rattle.take.proofs.Table.{row-before}

@@ -1,6 +1,9 @@
 use mathlib.Core.Path.{_≡_, refl, sym, ap, _∙_}
-use native.Mathlib.Omega.{arith}
-use Rattle.batch.proofs.Laws.{graded-1, open-first}
+use mathlib.Core.Bool.{false}
+use borrow.Author.Tests.{not-true}
+use Rattle.lanes.specs.Lane.{bit}
+use Rattle.stages.proofs.Laws.{graded-5}
+use Rattle.batch.proofs.Laws.{graded-1, open-first, none-left}
 use borrow.Author.Needs.{needs}
 use Rattle.batch.proofs.grade_fault.Statement.{statement}
 use Rattle.batch.proofs.grade_fault.Tie as tie
@@ -9,27 +12,44 @@ use Rattle.batch.proofs.grade_fault.Tie as tie
 abbrev start : tie.After-has-lane → tie.Start
 start c = c .before .before .before .before .before .before .before .before .before
 
-abbrev left : tie.After-settle-arg14 → tie.Else1
+abbrev left : tie.After-settle-arg14 → tie.Else2
 left c = c .before .before .before .before .before .before .before .before .before .before .before .before .before .before
+
+-- the lane has no place
+unplaced : (c : tie.Else1) → let s = start (c .before) .args in bit (s .lane) (s .firsts .found) ≡ false
+unplaced c = sym (c .before .has-lane .ensures) ∙ c .if1 .left
 
 returns : tie.Need-returns
 returns c =
     let then = c .before .before .before in
     let s = start (then .before) in record {
-      verdict = λ place. c .placed .ensures ∙ graded-1 _ _ _ _ _ _ _ place (sym (then .before .has-lane .ensures) ∙ then .if1 .taken) _ _;
+      verdict = λ known. c .placed .ensures ∙ graded-1 _ _ _ _ _ _ _ known (sym (then .before .has-lane .ensures) ∙ then .if1 .taken) _ _;
+      blank = s .pre .2;
+      stands = s .pre .1;
+    }
+
+returns-2 : tie.Need-returns-2
+returns-2 c =
+    let then = c .before in
+    let else = then .before .before in
+    let s = start (else .before) in
+    let g = s .pre .0 .tabled in record {
+      verdict = λ known.
+          c .placed2 .ensures
+          ∙ sym (graded-5 _ _ _ (open-first _ _ _ _ _ _ _ known (unplaced else)) (g .circuit) (g .test) (s .pre .4) (none-left _ _ _ _ _ _ _ known (unplaced else) (sym (then .before .has-lane2 .ensures) ∙ not-true _ (then .if2 .taken))) _ _);
       blank = s .pre .2;
       stands = s .pre .1;
     }
 
 settle-requires : tie.Need-settle-requires
-settle-requires c κs = let pre = start (left c .before) .pre in (pre .0, pre .1, pre .2, pre .3, pre .4)
+settle-requires c κs = let pre = start (left c .before .before .before) .pre in (pre .0, pre .1, pre .2, pre .3, pre .4)
 
-returns-2 : tie.Need-returns-2
-returns-2 c =
+returns-3 : tie.Need-returns-3
+returns-3 c =
     let settled = c .before .before in
-    let else = left (settled .before) in
+    let else = left (settled .before) .before .before in
     let done = settled .settle .ensures in record {
-      verdict = λ place. done .verdict (open-first _ _ _ _ _ _ _ place (sym (else .before .has-lane .ensures) ∙ else .if1 .left));
+      verdict = λ known. done .verdict (open-first _ _ _ _ _ _ _ known (unplaced else));
       blank = done .blank;
       stands = done .stands;
     }
@@ -45,6 +65,9 @@ grade-fault-spec =
     (λ c. search needs)
     (λ c κs. search needs)
     returns
+    (λ c κs. search needs)
+    (λ c κs. search needs)
+    returns-2
     settle-requires
     (λ c. search needs)
-    returns-2)
+    returns-3)

@@ -15,12 +15,12 @@ use Rattle.batch.proofs.write_batch.Statement.{statement}
 use Rattle.batch.proofs.write_batch.Tie as tie
 
 abbrev Inv-loop : tie.InvT-loop
-Inv-loop c job t fs from count plan k found moments lines pins flops outs hits₀ masks₀ feed₀ words₀ state₀ units₀ bits₀ row₀ states₀ list₀ nout₀ times₀ extras₀ work₀ result₀ lane₀ hits masks feed words state units bits row states list nout times extras work result lane =
+Inv-loop c job t fs from count plan k firsts moments lines pins flops outs hits₀ masks₀ feed₀ words₀ state₀ units₀ bits₀ row₀ states₀ list₀ nout₀ times₀ extras₀ work₀ result₀ lane₀ hits masks feed words state units bits row states list nout times extras work result lane =
     (lane ≤ count) × (length work ≡ length work₀) × (length result ≡ length result₀) × (Blank hits masks) × (Standing c t work)
     × ((old : List ℕ) → RecordsTo c t fs plan k from old result₀ → RecordsTo c t fs plan k (from + lane) old result)
 
 abbrev μ-loop : tie.MeasureT-loop
-μ-loop c job t fs from count plan k found moments lines pins flops outs hits₀ masks₀ feed₀ words₀ state₀ units₀ bits₀ row₀ states₀ list₀ nout₀ times₀ extras₀ work₀ result₀ lane₀ hits masks feed words state units bits row states list nout times extras work result lane =
+μ-loop c job t fs from count plan k firsts moments lines pins flops outs hits₀ masks₀ feed₀ words₀ state₀ units₀ bits₀ row₀ states₀ list₀ nout₀ times₀ extras₀ work₀ result₀ lane₀ hits masks feed words state units bits row states list nout times extras work result lane =
     count - lane
 
 -- places
@@ -76,7 +76,7 @@ loop-again c =
       done .grade-fault .ensures .blank,
       done .grade-fault .ensures .stands,
       λ old r.
-          records-as (omega arith) (records-more _ refl (inv .5 old r) (done .grade-fault .ensures .verdict (s .pre .7 .place (in-loop .before .loop .lane) (in-loop .loop-test .taken))) (record-written .write-record .ensures)),
+          records-as (omega arith) (records-more _ refl (inv .5 old r) (done .grade-fault .ensures .verdict (s .pre .7 .of (in-loop .before .loop .lane) (in-loop .loop-test .taken))) (record-written .write-record .ensures)),
     )
 
 returns : tie.Need-returns Inv-loop μ-loop

@@ -1,42 +1,40 @@
--- Of each lane below count: the first place before output o of unit u is noted, or there is none yet; the state is the run's at u. In a unit this
--- is said of the lanes of which it held where the unit began.
+-- Of each lane below count: the first place before output o of unit u is noted, or there is none yet, and whether something is left to show; the
+-- state is the run's at u. In a unit this is said of the lanes of which it held where the unit began.
 use mathlib.Core.Path.{_≡_, refl, ap, _∙_}
-use mathlib.Core.Bool.{false}
 use mathlib.Core.List.{List}
 use lib.Bits.{bitAnd, bitOr, bitXor}
 use Prim.Native.Nat.{ℕ, _+_, _-_, _<_, _≤_}
 use lib.ListN.{length}
 use native.Mathlib.Omega.{arith}
-use borrow.Author.Tests.{lt-ltb, le-ltb}
+use borrow.Author.Tests.{lt-ltb}
 use Rattle.model.specs.Inputs.{O, inputsAt, Fault}
 use Rattle.model.specs.Simulation.{powerUp, lineValues, stateAt}
 use Rattle.model.proofs.Runs.{length-lineValues}
+use Rattle.model.proofs.ThreeValued.{powerUp-three}
 use Rattle.lanes.specs.Lane.{bit, Lane}
-use Rattle.lanes.proofs.Bits.{bit-none}
 use Rattle.unit.specs.Unit.{Stuck}
-use Rattle.run.proofs.Laws.{values-asked, next-asked, RowRoom, row-room, OutputAt, output-at, output-read, state-turn, length-state, length-powerUp}
-use Rattle.plain.proofs.Scanned.{Scanned, never-new, scanned-none, scanned-turn, scanned-row, places-stop, places-all}
+use Rattle.run.proofs.Laws.{values-asked, next-asked, RowRoom, row-room, OutputAt, output-at, output-read, outputs-three, stuck-binary, values-three, state-turn, length-state, length-powerUp}
+use Rattle.plain.proofs.Scanned.{Scanned, scanned-none, scanned-turn, scanned-row, places-stop, places-all}
 use Rattle.plain.proofs.first_places.Statement.{statement}
 use Rattle.plain.proofs.first_places.Tie as tie
 
 abbrev Inv-loop : tie.InvT-loop
-Inv-loop c job t free count pins flops outs hits masks feed words state times₀ lines₀ wanted found₀ u at o₀ times lines found o =
-    (o ≤ job .outputs) × (length times ≡ length times₀) × (length lines ≡ length lines₀) × ((lane : ℕ) → count ≤ lane → lane < 64 → bit lane found ≡ false)
+Inv-loop c job t free count pins flops outs hits masks feed words state times₀ lines₀ wanted found₀ left₀ u at o₀ times lines found left o =
+    (o ≤ job .outputs) × (length times ≡ length times₀) × (length lines ≡ length lines₀)
     × ((lane : ℕ) (f : Fault) → lane < count → Stuck lane hits masks f → Lane lane words (lineValues c f (inputsAt c t u) (stateAt c t f (powerUp c) u))
-    → Scanned c t free (job .outputs) f lane u 0 found₀ times₀ lines₀ → Scanned c t free (job .outputs) f lane u o found times lines)
+    → Scanned c t free (job .outputs) f lane u 0 found₀ left₀ times₀ lines₀ → Scanned c t free (job .outputs) f lane u o found left times lines)
 
 abbrev μ-loop : tie.MeasureT-loop
-μ-loop c job t free count pins flops outs hits masks feed words state times₀ lines₀ wanted found₀ u at o₀ times lines found o = job .outputs - o
+μ-loop c job t free count pins flops outs hits masks feed words state times₀ lines₀ wanted found₀ left₀ u at o₀ times lines found left o = job .outputs - o
 
 abbrev Inv-units : tie.InvT-units
-Inv-units c job t free count pins flops outs hits masks feed₀ words₀ state₀ times₀ lines₀ wanted found₀ u₀ feed words state times lines found u =
+Inv-units c job t free count pins flops outs hits masks feed₀ words₀ state₀ times₀ lines₀ wanted found₀ left₀ u₀ feed words state times lines found left u =
     (u ≤ job .units) × (length feed ≡ length feed₀) × (length words ≡ length words₀) × (length state ≡ length state₀) × (length times ≡ length times₀) × (length lines ≡ length lines₀)
-    × ((lane : ℕ) → count ≤ lane → lane < 64 → bit lane found ≡ false)
     × ((lane : ℕ) (f : Fault) → lane < count → Stuck lane hits masks f → Lane lane state₀ (powerUp c)
-    → Lane lane state (stateAt c t f (powerUp c) u) × Scanned c t free (job .outputs) f lane u 0 found times lines)
+    → Lane lane state (stateAt c t f (powerUp c) u) × Scanned c t free (job .outputs) f lane u 0 found left times lines)
 
 abbrev μ-units : tie.MeasureT-units
-μ-units c job t free count pins flops outs hits masks feed₀ words₀ state₀ times₀ lines₀ wanted found₀ u₀ feed words state times lines found u = job .units - u
+μ-units c job t free count pins flops outs hits masks feed₀ words₀ state₀ times₀ lines₀ wanted found₀ left₀ u₀ feed words state times lines found left u = job .units - u
 
 -- places: the loop over the units, in it a unit, its values, the loop over the outputs, in it an output, what it opposes, and that noted
 abbrev Units : Type 0
@@ -90,8 +88,11 @@ loop c = c .before .before
 abbrev noted : Noted → tie.After-note Inv-loop μ-loop Inv-units μ-units
 noted c = c .before .before .before .before
 
+abbrev unknown : Noted → tie.After-unknown Inv-loop μ-loop Inv-units μ-units
+unknown c = noted c .before .before .before
+
 abbrev opposed : Noted → tie.After-opposing Inv-loop μ-loop Inv-units μ-units
-opposed c = noted c .before .before .before
+opposed c = unknown c .before
 
 abbrev looked : tie.After-opposing Inv-loop μ-loop Inv-units μ-units → Output
 looked c = c .before .before .before .before .before
@@ -130,7 +131,7 @@ values : (c : Loop) → let us = round c in let s = start us in let cs = s .args
 values c lane f h s st =
     let us = round c in
     let cs = start us .args .c .now in
-    valued c .values-at .ensures lane f _ s (us .units .inv .7 lane f h s st .0) (length-state cs (start us .args .t .now) f (powerUp cs) (us .units .u) (length-powerUp cs))
+    valued c .values-at .ensures lane f _ s (us .units .inv .6 lane f h s st .0) (length-state cs (start us .args .t .now) f (powerUp cs) (us .units .u) (length-powerUp cs))
 
 -- what is noted with output o: the places, and the lanes that have one
 abbrev times : Noted → List ℕ
@@ -144,29 +145,30 @@ found c =
     let l = turn c in
     bitOr (l .loop .found) (bitAnd (opposed c .opposing .result) (bitXor (wanted (round l) .first-lanes .result) (l .loop .found)))
 
-past : (c : Noted) (lane : ℕ) → begin (turn c) .args .count ≤ lane → lane < 64 → bit lane (found c) ≡ false
-unfolding found
-past c lane h low =
-    let l = turn c in
-    never-new lane (opposed c .opposing .result) _ (l .loop .found) (wanted (round l) .first-lanes .ensures lane low ∙ le-ltb lane _ h) (l .loop .inv .3 lane h low)
+left : Noted → ℕ
+left c = bitOr (turn c .loop .left) (unknown c .unknown .result)
 
 turned : (c : Noted) → let l = turn c in let us = round l in let s = start us in let cs = s .args .c .now in let ts = s .args .t .now in let size = s .args .job .outputs in
     (lane : ℕ) (f : Fault) → lane < s .args .count → Stuck lane (s .args .hits .now) (s .args .masks .now) f
     → Lane lane (words l) (lineValues cs f (inputsAt cs ts (us .units .u)) (stateAt cs ts f (powerUp cs) (us .units .u)))
-    → Scanned cs ts (s .args .free .now) size f lane (us .units .u) 0 (us .units .found) (us .units .times) (us .units .lines)
-    → Scanned cs ts (s .args .free .now) size f lane (us .units .u) (l .loop .o + 1) (found c) (times c) (lines c)
-unfolding found
+    → Scanned cs ts (s .args .free .now) size f lane (us .units .u) 0 (us .units .found) (us .units .left) (us .units .times) (us .units .lines)
+    → Scanned cs ts (s .args .free .now) size f lane (us .units .u) (l .loop .o + 1) (found c) (left c) (times c) (lines c)
+unfolding found left
 turned c lane f h s w b =
     let out = output c in
     let l = loop out in
     let cs = begin l .args .c .now in
-    scanned-turn _ _ _ _ f lane _ _ _ _ _ (l .loop .inv .4 lane f h s w b) _ _ _ (opposed c .opposing .result) _ (s .lane) (wanted (round l) .first-lanes .ensures lane (s .lane) ∙ lt-ltb lane _ h) (at out .line)
-    (opposed c .opposing .ensures lane _ (output-read cs f _ lane _ _ _ _ (at out) (opposed c .before .before .read .ensures) w (length-lineValues cs f _ _) (below out)))
-    (noted c .note .ensures)
+    let ts = begin l .args .t .now in
+    let vs = lineValues cs f (inputsAt cs ts (round l .units .u)) (stateAt cs ts f (powerUp cs) (round l .units .u)) in
+    let shows = output-read cs f vs lane _ _ _ _ (at out) (opposed c .before .before .read .ensures) w (length-lineValues cs f _ _) (below out) in
+    let run = begin l .pre .0 in
+    let three = values-three cs ts f (powerUp cs) (round l .units .u) (stuck-binary cs lane _ _ f (run .circuit) (run .hitRoom) s) (run .test) (powerUp-three cs) in
+    scanned-turn _ _ _ _ f lane _ _ _ _ _ _ (l .loop .inv .3 lane f h s w b) _ _ _ (opposed c .opposing .result) _ (unknown c .unknown .result) (s .lane) (wanted (round l) .first-lanes .ensures lane (s .lane) ∙ lt-ltb lane _ h) (at out .line)
+    (out .if2 .taken) (below out) (row (unit l) .fits) (opposed c .opposing .ensures lane _ shows) (unknown c .unknown .ensures lane _ (s .lane) (outputs-three cs f vs (l .loop .o) three (below out)) shows) (noted c .note .ensures)
 
 units-holds : tie.Need-units-holds Inv-loop μ-loop Inv-units μ-units
 unfolding stateAt
-units-holds c = (omega arith, refl, refl, refl, refl, refl, λ lane l h. bit-none lane, λ lane f h s l. (l, scanned-none _ _ _ _ _ _ _ _))
+units-holds c = (omega arith, refl, refl, refl, refl, refl, λ lane f h s l. (l, scanned-none _ _ _ _ _ _ _ _))
 
 values-at-requires : tie.Need-values-at-requires Inv-loop μ-loop Inv-units μ-units
 values-at-requires c κs =
@@ -175,7 +177,7 @@ values-at-requires c κs =
     values-asked _ _ _ _ _ _ _ _ _ _ _ (start (units u) .pre .0) _ _ _ (inv .1) (inv .2) (inv .3) _ (u .if1 .taken)
 
 loop-holds : tie.Need-loop-holds Inv-loop μ-loop Inv-units μ-units
-loop-holds c = (omega arith, refl, refl, units (running (c .before .before .before .before)) .units .inv .6, λ lane f h s w b. b)
+loop-holds c = (omega arith, refl, refl, λ lane f h s w b. b)
 
 read-requires : tie.Need-read-requires Inv-loop μ-loop Inv-units μ-units
 read-requires c κs =
@@ -183,24 +185,24 @@ read-requires c κs =
     let l = loop out in
     omega (arith, at out .below, begin l .pre .0 .lineRoom, worded l .words .given, round l .units .inv .2)
 
-add-opposing : tie.Need-add-opposing Inv-loop μ-loop Inv-units μ-units
-add-opposing c = let out = c .before .before .before in omega (arith, few out, row (unit (loop out)) .below)
+add-response : tie.Need-add-response Inv-loop μ-loop Inv-units μ-units
+add-response c = let out = c .before .before .before in omega (arith, few out, row (unit (loop out)) .below)
 
-shared-slice-read-opposing : tie.Need-shared-slice-read-opposing Inv-loop μ-loop Inv-units μ-units
-shared-slice-read-opposing c = let out = c .before .before .before .before in omega (arith, out .if2 .taken, row (unit (loop out)) .fits)
+shared-slice-read-response : tie.Need-shared-slice-read-response Inv-loop μ-loop Inv-units μ-units
+shared-slice-read-response c = let out = c .before .before .before .before in omega (arith, out .if2 .taken, row (unit (loop out)) .fits)
 
 note-requires : tie.Need-note-requires Inv-loop μ-loop Inv-units μ-units
 note-requires c κs =
-    let l = loop (looked (c .before .before)) in
+    let l = loop (looked (c .before .before .before)) in
     let inv = round l .units .inv in
     (omega (arith, l .loop .inv .1, inv .4, begin l .pre .3), omega (arith, l .loop .inv .2, inv .5, begin l .pre .4))
 
 loop-again : tie.Need-loop-again Inv-loop μ-loop Inv-units μ-units
-unfolding found
+unfolding found left
 loop-again c =
     let n = c .before in
     let inv = turn n .loop .inv in
-    (omega (arith, output n .if2 .taken), n .before .before .before .times .given ∙ inv .1, n .before .lines .given ∙ inv .2, past n, turned n)
+    (omega (arith, output n .if2 .taken), n .before .before .before .times .given ∙ inv .1, n .before .lines .given ∙ inv .2, turned n)
 
 next-state-requires : tie.Need-next-state-requires Inv-loop μ-loop Inv-units μ-units
 next-state-requires c κs =
@@ -227,11 +229,10 @@ units-again c =
       c .before .state .given ∙ us .inv .3,
       l .loop .inv .1 ∙ us .inv .4,
       l .loop .inv .2 ∙ us .inv .5,
-      l .loop .inv .3,
       λ lane f h s st.
           let w = values l lane f h s st in (
             rw (state-turn cs ts f (powerUp cs) (us .u)) (c .before .before .next-state .ensures lane f _ s w (length-lineValues cs f _ _)),
-            scanned-row _ _ _ _ _ _ _ _ _ _ _ (l .loop .inv .4 lane f h s w (us .inv .7 lane f h s st .1)) (omega (arith, l .loop .inv .0, c .before .before .before .before .before .if2 .left)),
+            scanned-row _ _ _ _ _ _ _ _ _ _ _ _ (l .loop .inv .3 lane f h s w (us .inv .6 lane f h s st .1)) (omega (arith, l .loop .inv .0, c .before .before .before .before .before .if2 .left)) (begin l .pre .0 .sizes .outputs),
           ),
     )
 
@@ -239,18 +240,18 @@ returns : tie.Need-returns Inv-loop μ-loop Inv-units μ-units
 returns c =
     let us = c .before .before in
     let run = start us .pre .0 in
-    places-all _ _ _ _ _ _ _ _ _ _ _ _ (run .sizes .outputs) (us .units .inv .6) (omega (arith, us .units .inv .0, c .if1 .left, run .sizes .units)) (λ lane f h s st. us .units .inv .7 lane f h s st .1)
+    places-all _ _ _ _ _ _ _ _ _ _ _ _ (run .sizes .outputs) (omega (arith, us .units .inv .0, c .if1 .left, run .sizes .units)) (λ lane f h s st. us .units .inv .6 lane f h s st .1)
 
 returns-2 : tie.Need-returns-2 Inv-loop μ-loop Inv-units μ-units
-unfolding found
+unfolding found left
 returns-2 c =
     let n = c .before in
     let l = turn n in
     let u = unit l in
     let us = units u in
     let run = start us .pre .0 in
-    places-stop _ _ _ _ _ _ _ _ _ _ _ _ (run .sizes .outputs) (past n) _ (λ lane h. ap (bit lane) (c .if3 .taken) ∙ wanted us .first-lanes .ensures lane h) (omega (arith, u .if1 .taken, run .sizes .units))
-    (omega (arith, output n .if2 .taken)) (λ lane f h s st. turned n lane f h s (values l lane f h s st) (us .units .inv .7 lane f h s st .1))
+    places-stop _ _ _ _ _ _ _ _ _ _ _ _ (run .sizes .outputs) _ (λ lane h. ap (bit lane) (c .if3 .taken) ∙ wanted us .first-lanes .ensures lane h) (omega (arith, u .if1 .taken, run .sizes .units))
+    (omega (arith, output n .if2 .taken)) (λ lane f h s st. turned n lane f h s (values l lane f h s st) (us .units .inv .6 lane f h s st .1))
 
 pub first-places-spec : {M : Type 1} → statement M
 first-places-spec =
@@ -268,8 +269,9 @@ first-places-spec =
     (λ c. omega (arith, few c))
     (λ c. at (c .before) .place)
     read-requires
-    add-opposing
-    shared-slice-read-opposing
+    add-response
+    shared-slice-read-response
+    (λ c κs. tt)
     (λ c κs. tt)
     note-requires
     (λ c. omega (arith, few (output (c .before))))

@@ -72,7 +72,7 @@ returns c =
     let left = c .before .before in
     let s = first left in
     let g = s .pre .0 in record {
-      verdict = λ f stuck fault open-first. c .placed .ensures ∙ sym (graded-5 _ _ f open-first (g .tabled .circuit) (g .tabled .test) fault _ (above left f (stuck 0 (omega arith))) (c .before .if1 .taken) _ _);
+      verdict = λ f stuck fault open-first. c .placed .ensures ∙ sym (graded-5 _ _ f open-first (g .tabled .circuit) (g .tabled .test) fault (above left f (stuck 0 (omega arith)) .zero 0 (omega (arith, c .before .if1 .taken)) (g .tabled .test .some)) _ _);
       stands = λ f stuck. standing-again _ (s .pre .1) (traced left .work .given) (traced left .before .trace .ensures .frees f stuck);
     }
 
@@ -111,7 +111,7 @@ at-pair-requires c κs =
 -- stage 2 gives no verdict
 second : (c : tie.Else1) (f : Fault) → let s = first (c .before) .args in
     Stuck 0 (s .hits .now) (s .masks .now) f → ValidFault (s .c .now) f → stage1 (s .c .now) (s .t .now) f ≡ none → stage2 (s .c .now) (s .t .now) f ≡ none
-second c f stuck fault open-first = let g = first (c .before) .pre .0 in stage2-none _ _ f open-first (g .tabled .circuit) (g .tabled .test) fault _ (above (c .before) f stuck) (c .if1 .left)
+second c f stuck fault open-first = let g = first (c .before) .pre .0 in stage2-none _ _ f open-first (g .tabled .circuit) (g .tabled .test) fault (above (c .before) f stuck .above 0 (omega (arith, c .if1 .left)))
 
 same-length-2 : tie.Need-same-length-2
 same-length-2 c = traced (opened (walked (c .before .before)) .before) .work .given
