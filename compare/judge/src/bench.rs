@@ -53,9 +53,8 @@ fn report(name: &str, job: &LentJob) {
     );
 }
 
-/// A circuit of so many lines in which many bits stay unknown; four faults in five reach stage 3.
-fn many_trials(lines: usize, flip_flops: usize, time_units: usize, faults: usize, seed: u64) -> LentJob {
-    let mut random = Random(seed);
+/// A circuit of so many lines in which many bits stay unknown, with all its faults in any order.
+pub fn unknown_bits(lines: usize, flip_flops: usize, time_units: usize, random: &mut Random) -> LentJob {
     let (inputs, watches) = (8, 20);
     let shape = Shape {
         inputs,
@@ -69,8 +68,14 @@ fn many_trials(lines: usize, flip_flops: usize, time_units: usize, faults: usize
         mixed: true,
         watches,
     };
-    let found = job(shape, time_units, 1, 6, random.next());
-    let mut reaching = faults_that_reach_stage_3(&some_faults(&found, 4000, &mut random));
+    some_faults(&job(shape, time_units, 1, 6, random.next()), 4000, random)
+}
+
+/// Such a circuit, with so many faults, of which four in five reach stage 3.
+fn many_trials(lines: usize, flip_flops: usize, time_units: usize, faults: usize, seed: u64) -> LentJob {
+    let mut random = Random(seed);
+    let found = unknown_bits(lines, flip_flops, time_units, &mut random);
+    let mut reaching = faults_that_reach_stage_3(&found);
     reaching.truncate(faults * 4 / 5);
     with_any_faults(&found, reaching, faults, &mut random)
 }

@@ -31,6 +31,8 @@ fn main() -> ExitCode {
         ["bench-jobs", directory] => bench::write(Path::new(directory)),
         #[cfg(feature = "library")]
         ["measure"] => measure::measure(),
+        #[cfg(feature = "library")]
+        ["growth"] => measure::growth(),
         ["grade", directory, k] => grade_files(Path::new(directory), k),
         _ => Err(io::Error::other("usage: judge specimens | vectors DIR | grade DIR K | bench-jobs DIR")),
     };

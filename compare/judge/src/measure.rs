@@ -3,6 +3,7 @@
 use crate::bench;
 use crate::bytes::LentJob;
 use crate::grade::grade;
+use crate::random::Random;
 use std::{hint::black_box, io, time::Instant};
 
 /// What an exported call returns: 0, 0 and how much it did, or 1, the rule and its position.
@@ -84,6 +85,43 @@ pub fn measure() -> io::Result<()> {
             theirs = theirs.min(seconds(|| judge.by_judge(&job)));
         }
         println!("{name}: {:.3} ms, library {:.3} ms, {:.1} times as fast", theirs * 1e3, ours * 1e3, theirs / ours);
+    }
+    Ok(())
+}
+
+/// The milliseconds that the library takes, the least of many calls.
+fn milliseconds(job: &LentJob) -> f64 {
+    let mut areas = Areas::of(job);
+    let begun = Instant::now();
+    let mut least = f64::INFINITY;
+    while begun.elapsed().as_secs_f64() < 1.0 || least == f64::INFINITY {
+        least = least.min(seconds(|| areas.by_library(job)));
+    }
+    least * 1e3
+}
+
+/// A job of so many lines, flip-flops and units, with so many faults that stage 2 does not end.
+fn hard(lines: usize, flip_flops: usize, time_units: usize, faults: usize) -> LentJob {
+    let found = bench::unknown_bits(lines, flip_flops, time_units, &mut Random(3));
+    let mut areas = Areas::of(&found);
+    areas.by_library(&found).expect("the job is accepted");
+    let records = found.faults.chunks_exact(4).zip(areas.result.chunks_exact(16));
+    let hard = records.filter(|(_, record)| ![1, 5].contains(&record[0])).map(|(fault, _)| fault);
+    let faults: Vec<u8> = hard.cycle().take(faults).flatten().copied().collect();
+    LentJob { result_len: faults.len() * 4, faults, ..found }
+}
+
+/// Prints how the library's time grows with lines, flip-flops, time units and faults.
+pub fn growth() -> io::Result<()> {
+    let sizes = [
+        [(250, 40, 60, 32), (500, 40, 60, 32), (1000, 40, 60, 32), (2000, 40, 60, 32)],
+        [(500, 20, 60, 32), (500, 40, 60, 32), (500, 80, 60, 32), (500, 160, 60, 32)],
+        [(500, 40, 30, 32), (500, 40, 60, 32), (500, 40, 120, 32), (500, 40, 240, 32)],
+        [(500, 40, 60, 16), (500, 40, 60, 32), (500, 40, 60, 64), (500, 40, 60, 128)],
+    ];
+    for (lines, flip_flops, time_units, faults) in sizes.into_iter().flatten() {
+        let job = hard(lines, flip_flops, time_units, faults);
+        println!("N {lines}, F {flip_flops}, L {time_units}, {faults} faults: {:.2} ms", milliseconds(&job));
     }
     Ok(())
 }
