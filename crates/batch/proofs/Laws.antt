@@ -1,14 +1,14 @@
 -- What stage 1's places say of a verdict, and what a batch asks for.
-use mathlib.Core.Path.{_≡_, refl, sym, ap, _∙_}
+use mathlib.Core.Path.{_≡_, sym, _∙_}
 use mathlib.Core.Bool.{true, false}
 use mathlib.Core.List.{List, _++_}
-use mathlib.Core.Option.{none, some, orElse, Option·getD}
-use Prim.Native.Nat.{ℕ, _+_, _*_, _-_, _<_, _≤_}
+use mathlib.Core.Option.{none, orElse}
+use Prim.Native.Nat.{ℕ, _+_, _*_, _-_, _≤_}
 use native.Mathlib.Omega.{arith}
 use borrow.Author.Tests.{lt-ltb, ltb-false}
 use lib.ListN.{getD, length, take, drop}
 use Rattle.lists.specs.Field.{overwritten, Rows}
-use Rattle.model.specs.Inputs.{N, O, L, Fault, faultCount, faultAt}
+use Rattle.model.specs.Inputs.{O, L, Fault, faultCount, faultAt}
 use Rattle.model.specs.Accepted.{ValidInputs}
 use Rattle.model.specs.Simulation.{powerUp, freeOutputs}
 use Rattle.model.specs.Expansion.{nout}

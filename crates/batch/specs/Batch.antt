@@ -4,7 +4,7 @@ use mathlib.Core.Bool.{false, cond}
 use lib.Dec.{ltb}
 use mathlib.Core.List.{List}
 use mathlib.Core.Option.{none, some}
-use Prim.Native.Nat.{ℕ, _+_, _*_, _<_, _≤_}
+use Prim.Native.Nat.{ℕ, _+_, _<_}
 use Rattle.lists.specs.Scan.{firstPair, gather}
 use Rattle.lists.specs.Field.{overwritten}
 use Rattle.model.specs.Inputs.{N, L, Fault, faultAt}

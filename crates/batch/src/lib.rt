@@ -1,8 +1,6 @@
 // A batch of the list's faults, up to 64. Stage 1 takes them together, one to a lane; a fault that it leaves open is then given to all lanes
 // and goes through the other stages alone. A fault's record is written before the next one is looked at.
-ghost use mathlib.Core.List.{List};
-ghost use mathlib.Core.Path.{_≡_};
-ghost use Prim.Native.Nat.{ℕ, _+_, _*_, _<_, _≤_};
+ghost use Prim.Native.Nat.{_+_, _*_, _<_, _≤_};
 ghost use lib.ListN.{length};
 ghost use Rattle.model.specs.Inputs.{faultAt, faultCount};
 ghost use Rattle.model.specs.Accepted.{ValidFault, ValidInputs};

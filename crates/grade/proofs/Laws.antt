@@ -1,5 +1,5 @@
 -- The fault-free responses, the room for them, and the records of a whole list.
-use mathlib.Core.Path.{_≡_, refl, sym, ap, _∙_}
+use mathlib.Core.Path.{_≡_, sym}
 use mathlib.Core.List.{List}
 use Prim.Native.Nat.{ℕ, _+_, _*_, _/_, _≤_}
 use native.Mathlib.Omega.{arith}
@@ -8,7 +8,7 @@ use lib.ListN.{length}
 use Rattle.lists.specs.Scan.{gather}
 use Rattle.lists.specs.Field.{overwritten, Rows}
 use Rattle.lists.proofs.Field.{overwritten-none}
-use Rattle.model.specs.Inputs.{N, F, O, L, faultCount}
+use Rattle.model.specs.Inputs.{F, O, L, faultCount}
 use Rattle.model.specs.Refusals.{workBytes}
 use Rattle.model.specs.Accepted.{GradeReady}
 use Rattle.model.specs.Simulation.{noFault, powerUp, outputsAt, freeOutputs}
@@ -19,7 +19,7 @@ use Rattle.circuit.specs.Table.{Tables}
 use Rattle.job.specs.Job.{JobOf}
 use Rattle.job.specs.declared.Job.{Job}
 use Rattle.fault.proofs.Tables.{response-rows}
-use Rattle.stages.specs.Stages.{Gradable, Standing}
+use Rattle.stages.specs.Stages.{Gradable}
 use Rattle.batch.specs.Batch.{RecordsTo}
 
 -- number 13 asks for room enough

@@ -1,9 +1,7 @@
 // Stage 1 of Grade for up to 64 faults at once, one to a lane: the first place at which an output opposes what the fault-free circuit shows,
 // by time unit and in it by line. Once every lane has its place the run ends. On the way the same outputs tell stage 2's condition of the
 // lanes that have none: whether some place is specified fault-free and X faulty.
-ghost use mathlib.Core.Path.{_≡_};
-ghost use Prim.Native.Nat.{ℕ, _*_, _<_, _≤_};
-ghost use lib.Dec.{ltb};
+ghost use Prim.Native.Nat.{_*_, _<_, _≤_};
 ghost use lib.ListN.{length};
 ghost use Rattle.model.specs.Inputs.{O, L};
 ghost use Rattle.lanes.specs.Lane.{bit};

@@ -4,7 +4,7 @@ use Prim.Native.Nat.{ℕ, zero, suc, _+_, _-_, _*_, _/_, _%_, _^_, _<_, _≤_}
 use mathlib.Core.Bool.{Bool, true, false, cond, true≢false}
 use mathlib.Core.List.{List, [], _∷_}
 use lib.Dec.{eqb, leb}
-use borrow.Author.Tests.{eqb-true, eq-eqb, leb-false, lt-leb}
+use borrow.Author.Tests.{eqb-true, eq-eqb}
 use lib.ListN.{getD, length, take, drop, replicate}
 use lib.Seq.{take-length, drop-length, drop-cons}
 use lib.Pow.{shr-shr}

@@ -5,7 +5,7 @@ use mathlib.Core.Option.{none}
 use Prim.Native.Nat.{ℕ, _+_, _*_, _<_, _≤_}
 use lib.ListN.{length, drop}
 use Rattle.lists.specs.Field.{Rows}
-use Rattle.model.specs.Inputs.{F, O, L, Fault, planCount}
+use Rattle.model.specs.Inputs.{O, L, Fault, planCount}
 use Rattle.model.specs.Accepted.{ValidCircuit, ValidTest, ValidFault}
 use Rattle.model.specs.Simulation.{plainOutputs, freeOutputs}
 use Rattle.model.specs.Grade.{stage1, grade}

@@ -1,15 +1,11 @@
 // Stages 2 to 6 of a fault that all lanes have and that stage 1 left open. They go in order, and the first that gives a verdict ends the fault's
 // work.
-ghost use mathlib.Core.List.{List};
 ghost use mathlib.Core.Option.{none};
 ghost use mathlib.Core.Path.{_≡_};
-ghost use Prim.Native.Nat.{ℕ, _+_, _*_, _/_, _%_, _<_, _≤_};
+ghost use Prim.Native.Nat.{_+_, _*_, _/_, _%_, _<_, _≤_};
 ghost use lib.ListN.{length, getD};
-ghost use Rattle.lists.specs.Field.{Rows};
-ghost use Rattle.model.specs.Inputs.{F, O, L, Fault, planCount};
-ghost use Rattle.model.specs.Simulation.{freeOutputs};
+ghost use Rattle.model.specs.Inputs.{O, L, Fault};
 ghost use Rattle.model.specs.Grade.{placed, beforeStage5, grade};
-ghost use Rattle.job.specs.Job.{JobOf};
 ghost use Rattle.record.specs.Record.{verdictOf};
 ghost use Rattle.take.specs.Take.{Prepared};
 ghost use Rattle.stages.specs.Stages.{Gradable, Standing, OpenFrom, Deciding, Graded};

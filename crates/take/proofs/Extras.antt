@@ -4,8 +4,7 @@ use mathlib.Core.Bool.{true, false}
 use mathlib.Core.List.{List, _∷_}
 use Prim.Native.Nat.{ℕ, zero, suc, _+_, _*_, _-_, _/_, _%_, _<_, _≤_}
 use native.Mathlib.Omega.{arith}
-use lib.ListN.{getD, length, set, take, drop, replicate, length-set, length-replicate, length-drop}
-use lib.Seq.{length-take-le}
+use lib.ListN.{getD, length, set, take, drop, replicate, length-set, length-replicate}
 use Rattle.lists.specs.Field.{rowOf, Rows}
 use Rattle.lists.proofs.Field.{part-taken}
 use Rattle.lists.proofs.Tests.{by-test, cond-cases}

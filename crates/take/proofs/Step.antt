@@ -1,10 +1,9 @@
 -- One pair of the plan more, once its extras are made: passed over where they touch something, else taken.
-use mathlib.Core.Path.{_≡_, refl, sym, ap, _∙_}
+use mathlib.Core.Path.{_≡_, refl, sym, _∙_}
 use mathlib.Core.Bool.{Bool, true, false, _||_}
 use mathlib.Core.List.{List}
 use Prim.Native.Nat.{ℕ, _+_, _*_, _<_, _≤_}
 use lib.ListN.{length, set}
-use Rattle.lists.specs.Field.{rowOf}
 use Rattle.model.specs.Inputs.{F, L, Fault}
 use Rattle.model.specs.Implication.{extra}
 use Rattle.model.specs.Sequences.{touches, takeNext}

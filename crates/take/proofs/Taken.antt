@@ -7,9 +7,9 @@ use native.Mathlib.Numerals.{add-one}
 use native.Mathlib.Decide.{decLe}
 use lib.ListN.{getD, length, set, length-append, List·getD-append}
 use lib.Seq.{getD-set-same, getD-set-other}
-use Rattle.lists.specs.Field.{rowOf, Rows, word16}
+use Rattle.lists.specs.Field.{rowOf, word16}
 use Rattle.lists.proofs.Tests.{by-eq}
-use Rattle.model.specs.Inputs.{F, L, Fault, planPair, planCount}
+use Rattle.model.specs.Inputs.{F, Fault, planPair, planCount}
 use Rattle.model.specs.Implication.{extra}
 use Rattle.model.specs.Sequences.{takeNext, takenOf, taken}
 use Rattle.sequences.specs.Ends.{Taken}

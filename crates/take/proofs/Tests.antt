@@ -7,8 +7,8 @@ use native.Mathlib.Omega.{arith}
 use native.Mathlib.Numerals.{add-one}
 use native.Mathlib.Decide.{decLe}
 use lib.Dec.{eqb, leb, ltb}
-use lib.ListN.{getD, length, take, drop, length-drop}
-use lib.Seq.{getD-take, getD-drop, drop-cons, drop-length, length-take-le}
+use lib.ListN.{getD, length, take, drop}
+use lib.Seq.{getD-take, getD-drop, drop-cons, drop-length}
 use borrow.Author.Tests.{eqb-true, ltb-true, le-leb, lt-leb, lt-ltb, le-ltb}
 use Rattle.lists.specs.Field.{rowOf, Rows}
 use Rattle.lists.proofs.Field.{row-fits, part-taken, length-row}

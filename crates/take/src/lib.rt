@@ -1,9 +1,8 @@
 // Stage 5, the plan: its pairs in order, each taken or passed over, and the extras of those taken. A pair's extras are made in the two rows
 // behind those of the pairs taken so far; where it is passed over, the next pair's are written over them.
-ghost use mathlib.Core.Bool.{true, false, _&&_, _||_};
-ghost use mathlib.Core.List.{List};
+ghost use mathlib.Core.Bool.{false, _&&_, _||_};
 ghost use mathlib.Core.Path.{_≡_};
-ghost use Prim.Native.Nat.{ℕ, _+_, _*_, _<_, _≤_};
+ghost use Prim.Native.Nat.{_+_, _*_, _<_, _≤_};
 ghost use lib.Dec.{eqb};
 ghost use lib.ListN.{length, getD, set, replicate};
 ghost use Rattle.model.specs.Inputs.{F, O, L, planCount};

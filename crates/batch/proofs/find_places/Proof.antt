@@ -1,4 +1,3 @@
-use mathlib.Core.Path.{_≡_, refl, sym, ap, _∙_}
 use native.Mathlib.Omega.{arith}
 use Rattle.stages.proofs.Laws.{runs}
 use Rattle.batch.proofs.Laws.{batch-of, found-of}

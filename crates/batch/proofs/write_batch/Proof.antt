@@ -1,5 +1,5 @@
 -- The records of the lanes below `lane` are written, and no lane has a fault.
-use mathlib.Core.Path.{_≡_, refl, sym, ap, _∙_}
+use mathlib.Core.Path.{_≡_, refl, _∙_}
 use mathlib.Core.List.{List}
 use Prim.Native.Nat.{ℕ, _+_, _*_, _-_, _<_, _≤_}
 use native.Mathlib.Omega.{arith}
@@ -10,7 +10,6 @@ use Rattle.faults.specs.Given.{Blank}
 use Rattle.stages.specs.Stages.{Standing}
 use Rattle.batch.specs.Batch.{RecordsTo}
 use Rattle.batch.proofs.Laws.{records-as, records-more}
-use borrow.Author.Needs.{needs}
 use Rattle.batch.proofs.write_batch.Statement.{statement}
 use Rattle.batch.proofs.write_batch.Tie as tie
 

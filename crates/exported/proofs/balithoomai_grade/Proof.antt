@@ -1,4 +1,4 @@
-use mathlib.Core.Path.{_≡_, refl, sym, ap, _∙_}
+use mathlib.Core.Path.{sym, ap, _∙_}
 use Rattle.job.specs.Job.{answerOf}
 use Rattle.exported.specs.Answered.{answered}
 use borrow.Author.Needs.{needs}

@@ -1,11 +1,9 @@
 -- The records of the faults below `from` are written, and no lane has a fault.
-use mathlib.Core.Path.{_≡_, refl, sym, ap, _∙_}
-use mathlib.Core.List.{List}
-use Prim.Native.Nat.{ℕ, _+_, _*_, _-_, _/_, _<_, _≤_}
+use mathlib.Core.Path.{_≡_, refl}
+use Prim.Native.Nat.{_-_, _<_, _≤_}
 use native.Mathlib.Omega.{arith}
 use native.Mathlib.Decide.{decLe}
 use lib.ListN.{length}
-use Rattle.model.specs.Inputs.{faultCount}
 use Rattle.faults.specs.Given.{Blank}
 use Rattle.stages.specs.Stages.{Standing}
 use Rattle.batch.specs.Batch.{RecordsTo}

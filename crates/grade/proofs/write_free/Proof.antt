@@ -1,4 +1,3 @@
-use mathlib.Core.Path.{_≡_, refl, sym, ap, _∙_}
 use native.Mathlib.Omega.{arith}
 use Rattle.model.specs.Simulation.{noFault, powerUp}
 use Rattle.model.proofs.ThreeValued.{powerUp-three}

@@ -1,4 +1,4 @@
-use mathlib.Core.Path.{_≡_, refl, sym, ap, _∙_}
+use mathlib.Core.Path.{sym}
 use native.Mathlib.Omega.{arith}
 use Rattle.stages.proofs.Laws.{runs, table-room, extra-room, pair-rows, lists-of}
 use Rattle.stages.proofs.last_stages.Statement.{statement}

@@ -1,5 +1,5 @@
-use mathlib.Core.Path.{_≡_, _∙_}
-use lib.ListN.{set, replicate, length-set, length-replicate}
+use mathlib.Core.Path.{_∙_}
+use lib.ListN.{replicate, length-set, length-replicate}
 use Rattle.model.specs.Values.{X}
 use Rattle.take.proofs.Table.{pair-lent}
 use borrow.Author.Needs.{needs}

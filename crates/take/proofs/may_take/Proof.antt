@@ -1,8 +1,5 @@
-use mathlib.Core.Path.{_≡_}
-use mathlib.Core.Bool.{false, not}
 use Prim.Native.Nat.{_+_, _*_, _<_, _≤_}
 use native.Mathlib.Omega.{arith}
-use lib.Dec.{leb, ltb}
 use lib.ListN.{getD, length}
 use borrow.Author.Tests.{le-leb, lt-leb, lt-ltb, le-ltb}
 use Rattle.lists.proofs.Field.{row-fits}

@@ -1,4 +1,4 @@
-use mathlib.Core.Path.{_≡_, refl}
+use mathlib.Core.Path.{refl}
 use Rattle.lanes.specs.Lane.{bit}
 use borrow.Author.Needs.{needs}
 use Rattle.tally.proofs.has_lane.Statement.{statement}
