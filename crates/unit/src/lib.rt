@@ -1,16 +1,16 @@
 // One time unit in 64 lanes, with inputs, a state and a fault of its own in each: the values of all lines, in line order, and the next state.
 ghost use mathlib.Core.Path.{_≡_};
 ghost use mathlib.Core.List.{List};
-ghost use mathlib.Core.Bool.{Bool, false, cond};
-ghost use Prim.Native.Nat.{ℕ, _+_, _*_, _/_, _<_, _≤_};
-ghost use lib.ListN.{length, getD};
-ghost use Rattle.model.specs.Inputs.{N, kind, pinLine, I, F, flipFlops, Fault};
+ghost use mathlib.Core.Bool.{true, false};
+ghost use Prim.Native.Nat.{ℕ, _+_, _*_, _<_, _≤_};
+ghost use lib.ListN.{length};
+ghost use Rattle.model.specs.Inputs.{N, kind, pinLine, isGate, I, F, flipFlops, Fault};
 ghost use Rattle.model.specs.Accepted.{ValidCircuit};
 ghost use Rattle.model.specs.Values.{gate};
 ghost use Rattle.model.specs.Simulation.{isStuck, seen, pinSeen, pinsSeen, behind, lineValues, nextState};
-ghost use Rattle.lanes.specs.Lane.{Holds, lanesAt, turnedIf, Lane, Room};
+ghost use Rattle.lanes.specs.Lane.{Holds, Lane, Room};
 ghost use Rattle.circuit.specs.Table.{Listed, PinTable};
-ghost use Rattle.unit.specs.Unit.{StuckAt, Stuck, MaskRoom};
+ghost use Rattle.unit.specs.Unit.{StuckAt, Stuck, MaskRoom, pinTabled, LineStored};
 use lanes::Lanes;
 
 // What is seen at a pin (0: the line itself) of a line with this row of masks, where x stands behind it.
@@ -58,12 +58,14 @@ fn gate_lanes(c: &[u8], masks: &[u64], words: &[u64], n: usize, k: u8, row: usiz
         .finish(k)
 }
 
-// The lanes of a pin, as the table of pins has it at place e.
-fn table_lanes(pins: &[u16], words: &[u64], e: usize) -> Lanes
-    requires { ⌜ (e < length (now pins)) × (Room (getD (now pins) e 0 / 2 + 1) (now words)) ⌝ }
-    ensures { λ r. ⌜ ((m : ℕ) (turned : Bool) → getD (now (pins .entry)) e 0 ≡ 2 * m + cond turned 1 0 → r ≡ turnedIf turned (lanesAt (now (words .entry)) m)) ⌝ }
+// What pin i + 1 of gate n sees where the gate has no fault, as the table of pins has it: of OR the inverse, and for a pin that the gate
+// does not have its first pin again.
+fn free_pin(c: &[u8], pins: &[u16], words: &[u64], n: usize, i: usize) -> Lanes
+    requires { ⌜ (ValidCircuit (now c)) × (n < N (now c)) × (isGate (now c) n ≡ true) × (i < 4) × (PinTable (now c) (now pins)) × (Room n (now words)) ⌝ }
+    ensures { λ r. ⌜ ((t : ℕ) (f : Fault) (vs : List ℕ) → ((pin : ℕ) → isStuck f n pin ≡ false) → Lane t (now (words .entry)) vs → n ≤ length vs
+        → Holds t r (pinTabled (now (c .entry)) f vs n (i + 1))) ⌝ }
 {
-    lanes::read_turned(words, basics::wide16(pins[e]))
+    lanes::read_turned(words, basics::wide16(pins[4 * n + i]))
 }
 
 // Gate n with no fault at it, of a kind k up to 7. All are one AND of four pins, which needs no test of kind or pin count: OR is, by
@@ -73,15 +75,44 @@ fn and_gate(c: &[u8], pins: &[u16], words: &[u64], n: usize, k: u8) -> Lanes
     ensures { λ r. ⌜ ((t : ℕ) (f : Fault) (vs : List ℕ) → ((pin : ℕ) → isStuck f n pin ≡ false) → Lane t (now (words .entry)) vs → n ≤ length vs
         → Holds t r (gate k (pinsSeen (now (c .entry)) f vs n))) ⌝ }
 {
-    let e = 4 * n;
-    let first = table_lanes(pins, words, e);
-    let second = table_lanes(pins, words, e + 1);
-    let third = table_lanes(pins, words, e + 2);
-    let fourth = table_lanes(pins, words, e + 3);
+    let first = free_pin(c, pins, words, n, 0);
+    let second = free_pin(c, pins, words, n, 1);
+    let third = free_pin(c, pins, words, n, 2);
+    let fourth = free_pin(c, pins, words, n, 3);
     let all = first.and(second).and(third.and(fourth));
     match k {
         0..=5 => all.finish(k),
         _ => all.finish(k + 1),
+    }
+}
+
+// XOR or XNOR n with no fault at it. The first pin is read once, and once more for each pin that the gate does not have: where the gate has
+// an odd number of pins that is an even number of times, and the first pin is taken once more.
+fn xor_gate(c: &[u8], pins: &[u16], words: &[u64], n: usize, k: u8) -> Lanes
+    requires { ⌜ (ValidCircuit (now c)) × (n < N (now c)) × (k ≡ kind (now c) n) × (8 ≤ k) × (PinTable (now c) (now pins)) × (Room n (now words)) ⌝ }
+    ensures { λ r. ⌜ ((t : ℕ) (f : Fault) (vs : List ℕ) → ((pin : ℕ) → isStuck f n pin ≡ false) → Lane t (now (words .entry)) vs → n ≤ length vs
+        → Holds t r (gate k (pinsSeen (now (c .entry)) f vs n))) ⌝ }
+{
+    let first = free_pin(c, pins, words, n, 0);
+    let second = free_pin(c, pins, words, n, 1);
+    let third = free_pin(c, pins, words, n, 2);
+    let fourth = free_pin(c, pins, words, n, 3);
+    let all = first.xor(second.xor(third.xor(fourth)));
+    if circuit::pins_of(c, n) % 2 == 1 {
+        return first.xor(all).finish(k);
+    }
+    all.finish(k)
+}
+
+// Gate n, of kind k, with no fault at it.
+fn free_gate(c: &[u8], pins: &[u16], words: &[u64], n: usize, k: u8) -> Lanes
+    requires { ⌜ (ValidCircuit (now c)) × (n < N (now c)) × (k ≡ kind (now c) n) × (2 ≤ k) × (PinTable (now c) (now pins)) × (Room n (now words)) ⌝ }
+    ensures { λ r. ⌜ ((t : ℕ) (f : Fault) (vs : List ℕ) → ((pin : ℕ) → isStuck f n pin ≡ false) → Lane t (now (words .entry)) vs → n ≤ length vs
+        → Holds t r (gate k (pinsSeen (now (c .entry)) f vs n))) ⌝ }
+{
+    match k {
+        0..=7 => and_gate(c, pins, words, n, k),
+        _ => xor_gate(c, pins, words, n, k),
     }
 }
 
@@ -126,8 +157,54 @@ fn behind_lanes(
     match k {
         0 => lanes::read(inputs, basics::wide16(pins[4 * n])),
         1 => lanes::read(state, basics::wide16(pins[4 * n])),
-        _ => any_gate(c, pins, masks, words, n, k, row),
+        _ => gate_lanes(c, masks, words, n, k, row),
     }
+}
+
+// Stores the value of line n, of any kind k, with a fault at it or none.
+fn store_line(
+    c: &[u8],
+    pins: &[u16],
+    inputs: &[u64],
+    state: &[u64],
+    masks: &[u64],
+    words: &mut [u64],
+    n: usize,
+    k: u8,
+    row: usize,
+)
+    requires { ⌜ (ValidCircuit (now c)) × (n < N (now c)) × (k ≡ kind (now c) n) × (PinTable (now c) (now pins)) × (MaskRoom (now masks)) × (row < 256) × (Room (n + 1) (now words))
+        × (Room (I (now c)) (now inputs)) × (Room (F (now c)) (now state)) ⌝ }
+    ensures { λ _. ⌜ LineStored (now (c .entry)) (now (inputs .entry)) (now (state .entry)) (now (masks .entry)) (now (words .entry)) (now (words .exit)) n row ⌝ }
+{
+    let x = behind_lanes(c, pins, inputs, state, masks, words, n, k, row);
+    lanes::store(words, n, seen_at(masks, row, 0, x));
+}
+
+// The same. Most lines are gates with no fault at them, and these take the short way: no slice is lent on their account, and no value comes
+// back by memory.
+fn simulate_line(
+    c: &[u8],
+    pins: &[u16],
+    inputs: &[u64],
+    state: &[u64],
+    masks: &[u64],
+    words: &mut [u64],
+    n: usize,
+    k: u8,
+    row: usize,
+)
+    requires { ⌜ (ValidCircuit (now c)) × (n < N (now c)) × (k ≡ kind (now c) n) × (PinTable (now c) (now pins)) × (MaskRoom (now masks)) × (row < 256) × (Room (n + 1) (now words))
+        × (Room (I (now c)) (now inputs)) × (Room (F (now c)) (now state)) ⌝ }
+    ensures { λ _. ⌜ LineStored (now (c .entry)) (now (inputs .entry)) (now (state .entry)) (now (masks .entry)) (now (words .entry)) (now (words .exit)) n row ⌝ }
+{
+    if row == 0 {
+        if 2 <= k {
+            lanes::store(words, n, free_gate(c, pins, words, n, k));
+            return;
+        }
+    }
+    store_line(c, pins, inputs, state, masks, words, n, k, row);
 }
 
 // The values of all lines.
@@ -150,8 +227,7 @@ pub fn simulate_unit(
     while n < lines {
         let k = circuit::field(c, n, circuit::KIND);
         let row = basics::wide(hits[n]);
-        let x = behind_lanes(c, pins, inputs, state, masks, words, n, k, row);
-        lanes::store(words, n, seen_at(masks, row, 0, x));
+        simulate_line(c, pins, inputs, state, masks, words, n, k, row);
         n += 1;
     }
 }

@@ -1,18 +1,18 @@
 use mathlib.Core.Path.{_≡_, refl}
-use mathlib.Core.Bool.{Bool, true, false, cond}
+use mathlib.Core.Bool.{Bool, true, false}
 use mathlib.Core.List.{List}
-use Prim.Native.Nat.{ℕ, _+_, _*_, _/_, _%_, _<_, _≤_}
+use Prim.Native.Nat.{ℕ, _/_, _<_, _≤_}
 use native.Mathlib.Omega.{arith}
 use borrow.Author.Tests.{eq-eqb, ne-eqb}
-use lib.ListN.{getD, length}
-use Rattle.model.specs.Inputs.{kind, pinCount, pinLine, isGate, Fault}
+use lib.ListN.{length}
+use Rattle.model.specs.Inputs.{N, kind, pinCount, isGate, Fault}
+use Rattle.model.specs.Accepted.{ValidCircuit}
 use Rattle.model.specs.Values.{invert, andPair, invertIf}
-use Rattle.model.specs.Simulation.{isStuck, seen, pinSeen, pinsSeen}
-use Rattle.lanes.specs.declared.Lanes.{Lanes}
-use Rattle.lanes.specs.Lane.{Holds, lanesAt, turnedIf, Lane}
-use Rattle.lanes.proofs.Laws.{holds-as, lane-at, holds-turned}
-use Rattle.circuit.specs.Table.{pinRead, isOr, pinNumber}
-use Rattle.circuit.proofs.Laws.{is-gate, pin-read-lower}
+use Rattle.model.specs.Simulation.{isStuck, pinSeen, pinsSeen}
+use Rattle.lanes.specs.Lane.{Holds, Lane, Room}
+use Rattle.circuit.specs.Table.{pinRead, isOr, PinTable}
+use Rattle.circuit.proofs.Laws.{is-gate}
+use Rattle.unit.specs.Unit.{pinTabled}
 use Rattle.unit.proofs.Laws.{shows-gate}
 use Rattle.unit.proofs.Plain.{shows-four, shows-low, invert-pins, shows-or-gate}
 use borrow.Author.Needs.{needs}
@@ -30,41 +30,14 @@ is-or : (c : tie.Start) → 6 ≤ c .args .k → isOr (c .args .c .now) (c .args
 unfolding isOr
 is-or c h = eq-eqb (kind (c .args .c .now) (c .args .n) / 2) 3 (omega (arith, c .pre .2, c .pre .4, h))
 
--- what stands at place e of the table, that of pin i + 1
-numbered : (c : tie.Start) (turned : Bool) → isOr (c .args .c .now) (c .args .n) ≡ turned → (e i : ℕ) → e ≡ 4 * c .args .n + i → i < 4
-    → getD (c .args .pins .now) e 0 ≡ 2 * pinLine (c .args .c .now) (c .args .n) (pinRead (pinCount (c .args .c .now) (c .args .n)) (i + 1)) + cond turned 1 0
-unfolding pinNumber
-numbered c turned or e i at h =
-    let row : e / 4 ≡ c .args .n = omega arith in
-    let pin : e % 4 ≡ i = omega arith in
-    rw (← or) (rw (row, pin) at (c .pre .5 .same e (omega (arith, c .pre .1)) (rw row (gate c))))
-
--- it names a lower line
-low : (c : tie.Start) (e i : ℕ) → e ≡ 4 * c .args .n + i → i < 4 → getD (c .args .pins .now) e 0 / 2 < c .args .n
-low c e i at h = rw (numbered c _ refl e i at h) (half _ (isOr (c .args .c .now) (c .args .n)) (pin-read-lower _ (c .pre .0) _ (i + 1) (c .pre .1) (gate c) (omega arith)))
-  where
-    half : (q : ℕ) (turned : Bool) → q < c .args .n → (2 * q + cond turned 1 0) / 2 < c .args .n
-    half q true l = omega arith
-    half q false l = omega arith
-
--- with no fault at the gate, what was read for pin p is what the pin that it stands for sees
-read : (c : tie.Start) (t : ℕ) (f : Fault) (vs : List ℕ) (turned : Bool) → ((pin : ℕ) → isStuck f (c .args .n) pin ≡ false) → Lane t (c .args .words .now) vs → c .args .n ≤ length vs
-    → (p : ℕ) (x : Lanes) → 1 ≤ p → x ≡ turnedIf turned (lanesAt (c .args .words .now) (pinLine (c .args .c .now) (c .args .n) (pinRead (pinCount (c .args .c .now) (c .args .n)) p)))
-    → Holds t x (invertIf turned (pinSeen (c .args .c .now) f vs (c .args .n) (pinRead (pinCount (c .args .c .now) (c .args .n)) p)))
-unfolding pinSeen seen
-read c t f vs turned free l e p x h is =
-    holds-as t x _ _ is
-    (holds-turned t _ _ turned
-    (rw (free (pinRead (pinCount (c .args .c .now) (c .args .n)) p)) (lane-at t _ vs _ l (omega (arith, e, pin-read-lower _ (c .pre .0) _ p (c .pre .1) (gate c) h)))))
-
 -- places
-abbrev start : tie.After-table-lanes → tie.Start
+abbrev start : tie.After-free-pin → tie.Start
 start c = c .before .before .before .before
 
-abbrev third : tie.After-table-lanes3 → tie.After-table-lanes
+abbrev third : tie.After-free-pin3 → tie.After-free-pin
 third c = c .before .before
 
-abbrev fourth : tie.After-and3 → tie.After-table-lanes4
+abbrev fourth : tie.After-and3 → tie.After-free-pin4
 fourth c = c .before .before .before
 
 -- the AND of the four pins that are read, inverted for OR
@@ -73,35 +46,19 @@ all : (c : tie.After-and3) → let s = start (third (fourth c .before)) in
     → Lane t (s .args .words .now) vs → s .args .n ≤ length vs
     → let w : ℕ → ℕ = λ p. invertIf turned (pinSeen (s .args .c .now) f vs (s .args .n) (pinRead (pinCount (s .args .c .now) (s .args .n)) p)) in
     Holds t (c .and3 .result) (andPair (andPair (w 1) (w 2)) (andPair (w 3) (w 4)))
+unfolding pinTabled
 all c t f vs turned or free l e =
     let p4 = fourth c in
     let p1 = third (p4 .before) in
-    let s = start p1 in
-    let number = numbered s turned or in
-    let pin = read s t f vs turned free l e in
-    c .and3 .ensures t _ _
-    (c .before .before .and .ensures t _ _
-    (pin 1 _ (omega arith) (p1 .table-lanes .ensures _ turned (number (4 * s .args .n) 0 (omega arith) (omega arith))))
-    (pin 2 _ (omega arith) (p4 .before .before .table-lanes2 .ensures _ turned (number _ 1 refl (omega arith)))))
-    (c .before .and2 .ensures t _ _
-    (pin 3 _ (omega arith) (p4 .before .table-lanes3 .ensures _ turned (number _ 2 refl (omega arith))))
-    (pin 4 _ (omega arith) (p4 .table-lanes4 .ensures _ turned (number _ 3 refl (omega arith)))))
+    rw (← or)
+    (c .and3 .ensures t _ _
+    (c .before .before .and .ensures t _ _ (p1 .free-pin .ensures t f vs free l e) (p4 .before .before .free-pin2 .ensures t f vs free l e))
+    (c .before .and2 .ensures t _ _ (p4 .before .free-pin3 .ensures t f vs free l e) (p4 .free-pin4 .ensures t f vs free l e)))
 
 -- what reading pin i + 1 asks for
-asked : (s : tie.Start) (e i : ℕ) → e ≡ 4 * s .args .n + i → i < 4 → (e < length (s .args .pins .now)) × (2 * (getD (s .args .pins .now) e 0 / 2 + 1) ≤ length (s .args .words .now))
-asked s e i at h = (omega (arith, s .pre .5 .room, s .pre .1), omega (arith, s .pre .6, low s e i at h))
-
-table-lanes-requires : tie.Need-table-lanes-requires
-table-lanes-requires c κs = asked (c .before .before .before) _ 0 (omega arith) (omega arith)
-
-table-lanes-requires-2 : tie.Need-table-lanes-requires-2
-table-lanes-requires-2 c κs = asked (start c) _ 1 refl (omega arith)
-
-table-lanes-requires-3 : tie.Need-table-lanes-requires-3
-table-lanes-requires-3 c κs = asked (start (c .before)) _ 2 refl (omega arith)
-
-table-lanes-requires-4 : tie.Need-table-lanes-requires-4
-table-lanes-requires-4 c κs = asked (start (third c)) _ 3 refl (omega arith)
+asked : (s : tie.Start) (i : ℕ) → i < 4
+    → ValidCircuit (s .args .c .now) × (s .args .n < N (s .args .c .now)) × (isGate (s .args .c .now) (s .args .n) ≡ true) × (i < 4) × PinTable (s .args .c .now) (s .args .pins .now) × Room (s .args .n) (s .args .words .now)
+asked s i h = (s .pre .0, s .pre .1, gate s, h, s .pre .5, s .pre .6)
 
 add-finish : tie.Need-add-finish
 add-finish c = omega (arith, start (third (fourth (c .before) .before)) .pre .4)
@@ -135,14 +92,10 @@ pub and-gate-spec : {M : Type 1} → statement M
 and-gate-spec =
     tie.close
     (tie.spec
-    (λ c. search needs)
-    table-lanes-requires
-    (λ c. search needs)
-    table-lanes-requires-2
-    (λ c. search needs)
-    table-lanes-requires-3
-    (λ c. search needs)
-    table-lanes-requires-4
+    (λ c κs. asked (c .before .before .before) 0 (omega arith))
+    (λ c κs. asked (start c) 1 (omega arith))
+    (λ c κs. asked (start (c .before)) 2 (omega arith))
+    (λ c κs. asked (start (third c)) 3 (omega arith))
     (λ c κs. search needs)
     (λ c κs. search needs)
     (λ c κs. search needs)

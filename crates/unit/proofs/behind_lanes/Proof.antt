@@ -55,7 +55,7 @@ returns-2 c = λ t f ins st vs s li ei ls es h eh.
     behind-state t _ _ _ f ins st vs _ _ (sym (pre .2) ∙ bit at .match .keys2) (bit-at at .0) (lane-read t _ st _ _ _ (c .read2 .ensures) refl ls (omega (arith, es, bit-at at .1)))
 
 returns-3 : tie.Need-returns-3
-returns-3 c = λ t f ins st vs s li ei ls es h eh. behind-gate t _ _ _ f ins st vs _ _ (start (c .before .before) .pre .2) (omega arith) (c .any-gate .ensures t f vs s h (omega arith))
+returns-3 c = λ t f ins st vs s li ei ls es h eh. behind-gate t _ _ _ f ins st vs _ _ (start (c .before .before) .pre .2) (omega arith) (c .gate-lanes .ensures t f vs s h (omega arith))
 
 pub behind-lanes-spec : {M : Type 1} → statement M
 behind-lanes-spec =

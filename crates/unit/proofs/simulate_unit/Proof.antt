@@ -32,11 +32,11 @@ start l = l .before .before .before .before .before .before .before .before
 abbrev turn : tie.After-wide Inv-loop μ-loop → tie.In-loop Inv-loop μ-loop
 turn c = c .before .before .before
 
-abbrev rowed : tie.After-seen-at Inv-loop μ-loop → tie.After-wide Inv-loop μ-loop
-rowed c = c .before .before .before .before
-
-abbrev put : tie.After-slice-known2 Inv-loop μ-loop → tie.After-store Inv-loop μ-loop
+abbrev put : tie.After-slice-known2 Inv-loop μ-loop → tie.After-simulate-line Inv-loop μ-loop
 put c = c .before .before
+
+abbrev rowed : tie.After-simulate-line Inv-loop μ-loop → tie.After-wide Inv-loop μ-loop
+rowed c = c .before .before
 
 room : (c : tie.In-loop Inv-loop μ-loop) → Room (c .before .loop .n + 1) (c .before .loop .words)
 room c = omega (arith, c .loop-test .taken, start (c .before) .pre .5, c .before .loop .inv .1)
@@ -50,8 +50,8 @@ field-requires c κs = let pre = start (c .before) .pre in (omega (arith, c .loo
 shared-slice-read-wide : tie.Need-shared-slice-read-wide Inv-loop μ-loop
 shared-slice-read-wide c = let in-loop = c .before .before in omega (arith, in-loop .loop-test .taken, start (in-loop .before) .pre .3)
 
-behind-lanes-requires : tie.Need-behind-lanes-requires Inv-loop μ-loop
-behind-lanes-requires c κs =
+simulate-line-requires : tie.Need-simulate-line-requires Inv-loop μ-loop
+simulate-line-requires c κs =
     let in-loop = turn (c .before) in
     let pre = start (in-loop .before) .pre in (
       pre .0,
@@ -60,37 +60,30 @@ behind-lanes-requires c κs =
       pre .1,
       pre .4,
       omega (arith, c .before .wide .ensures .1),
-      omega (arith, room in-loop),
+      room in-loop,
       pre .6,
       pre .7,
     )
 
-seen-at-requires : tie.Need-seen-at-requires Inv-loop μ-loop
-seen-at-requires c κs = let row = c .before .before .before in (start (turn row .before) .pre .4, omega (arith, row .wide .ensures .1), omega arith)
-
-store-requires : tie.Need-store-requires Inv-loop μ-loop
-store-requires c κs = room (turn (rowed c))
-
 add-n : tie.Need-add-n Inv-loop μ-loop
 add-n c =
-    let in-loop = turn (rowed (put c .before)) in
+    let in-loop = turn (rowed (put c)) in
     let pre = start (in-loop .before) .pre in
     omega (arith, pre .0 .lines, pre .2, in-loop .loop-test .taken)
 
 loop-again : tie.Need-loop-again Inv-loop μ-loop
 loop-again c =
-    let store = put c in
-    let row = rowed (store .before) in
+    let row = rowed (put c) in
     let in-loop = turn row in
     let loop = in-loop .before .loop in
-    let below = in-loop .loop-test .taken in (
+    let below = in-loop .loop-test .taken in
+    let line = put c .simulate-line .ensures in (
       omega (arith, below),
-      length-stored _ _ _ _ (store .store .ensures) ∙ loop .inv .1,
+      length-stored _ _ _ _ (line .put) ∙ loop .inv .1,
       λ t f ins st s li ei l e.
           let lane = loop .inv .2 t f ins st s li ei l e in
           let at = stuck-row t _ _ f _ _ s (omega (arith, start (in-loop .before) .pre .3, below)) (row .wide .ensures .0) in
-          values-more _ f ins st t _ _ _ _ (store .store .ensures) (room in-loop) lane
-          (store .before .seen-at .ensures t f _ _ at (store .before .before .before .behind-lanes .ensures t f ins st _ at li ei l e lane (length-valuesBelow _ f ins st _))),
+          values-more _ f ins st t _ _ _ _ (line .put) (room in-loop) lane (line .holds t f ins st _ at li ei l e lane (length-valuesBelow _ f ins st _)),
     )
 
 returns : tie.Need-returns Inv-loop μ-loop
@@ -106,11 +99,9 @@ simulate-unit-spec =
     field-requires
     shared-slice-read-wide
     (λ c κs. tt)
-    behind-lanes-requires
-    seen-at-requires
-    store-requires
+    simulate-line-requires
     add-n
-    (λ c. omega (arith, turn (rowed (put c .before)) .loop-test .taken))
+    (λ c. omega (arith, turn (rowed (put c)) .loop-test .taken))
     loop-again
     (λ c. c .before .loop .inv .1)
     returns)
