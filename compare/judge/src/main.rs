@@ -34,7 +34,7 @@ fn main() -> ExitCode {
         #[cfg(feature = "library")]
         ["growth"] => measure::growth(),
         ["grade", directory, k] => grade_files(Path::new(directory), k),
-        _ => Err(io::Error::other("usage: judge specimens | vectors DIR | grade DIR K | bench-jobs DIR")),
+        _ => Err(io::Error::other("usage: judge specimens | vectors DIR | grade DIR K | bench-jobs DIR; with the library also measure | growth")),
     };
     match done {
         Ok(()) => ExitCode::SUCCESS,
