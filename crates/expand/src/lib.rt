@@ -48,7 +48,7 @@ fn fill_at(
 }
 
 // The pairs with X bits from position `at` on, up to 32 of them.
-fn fill(
+pub fn fill(
     size: usize,
     states: &[u8],
     at: usize,

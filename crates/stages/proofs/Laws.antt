@@ -38,13 +38,18 @@ use Rattle.stages.specs.Stages.{Tabled, Standing, Deciding}
 module _ (c t : List ℕ) (f : Fault) (open-first : stage1 c t f ≡ none) where
   -- ---- stage 2
   module _ (circuit : ValidCircuit c) (test : ValidTest c t) (fault : ValidFault c f) where
-    pub graded-5 : nout c t f 0 ≡ 0 → (p : List ℕ) (k : ℕ) → grade c t f p k ≡ placed 5 0 0
-    unfolding grade beforeStage5 stage2 orElse
-    graded-5 zero p k = rw (open-first, both-open-somewhere c t f circuit test fault, zero)
+    pub before-5 : nout c t f 0 ≡ 0 → beforeStage5 c t f ≡ some (placed 5 0 0)
+    unfolding beforeStage5 stage2 orElse
+    before-5 zero = rw (open-first, both-open-somewhere c t f circuit test fault, zero)
 
     pub stage2-none : 0 < nout c t f 0 → stage2 c t f ≡ none
     unfolding stage2
     stage2-none some-open = rw (both-open-somewhere c t f circuit test fault, lt-ltb 0 (nout c t f 0) some-open)
+
+-- a verdict of stages 1 to 4 is the fault's
+pub graded-before : (c t : List ℕ) (f : Fault) (p : List ℕ) (k : ℕ) (v : Verdict) → beforeStage5 c t f ≡ some v → grade c t f p k ≡ v
+unfolding grade orElse
+graded-before c t f p k v e = rw e
 
 -- ---- what the steps ask for
 pub flops-room : (c flops : List ℕ) → Listed (flipFlops c) flops → F c ≤ length flops
@@ -118,9 +123,9 @@ module _ {c t states work hits masks list : List ℕ} {left e : ℕ} {walk : Wal
     above = above;
   }
 
-  pub graded-2 : e < L c t * F c → (p : List ℕ) (k : ℕ) → grade c t f p k ≡ placed 2 (e / F c) (flipFlopLine c (e % F c))
-  unfolding grade beforeStage5 orElse
-  graded-2 h p k = elim (decLe (L c t * F c) (walk .both)) [
+  pub before-2 : e < L c t * F c → beforeStage5 c t f ≡ some (placed 2 (e / F c) (flipFlopLine c (e % F c)))
+  unfolding beforeStage5 orElse
+  before-2 h = elim (decLe (L c t * F c) (walk .both)) [
     | yes g ↦ (let same = decides .fourth g in rw (open-first, open-second, stage3-none c t f list walk walked g, stage4-met c t f list walk walked g (rw (← same) h), same))
     | no g ↦ (let same = decides .third (omega arith) in rw (open-first, open-second, stage3-met c t f list walk walked (omega arith), same))
   ]

@@ -8,7 +8,7 @@ ghost use Rattle.model.specs.Inputs.{O, L, Fault};
 ghost use Rattle.model.specs.Grade.{placed, beforeStage5, grade};
 ghost use Rattle.record.specs.Record.{verdictOf};
 ghost use Rattle.take.specs.Take.{Prepared};
-ghost use Rattle.stages.specs.Stages.{Gradable, Standing, OpenFrom, Deciding, Graded};
+ghost use Rattle.stages.specs.Stages.{Tabled, Gradable, Standing, OpenFrom, Deciding, Middling, Graded};
 use expand::Walk;
 use job::Job;
 use record::Verdict;
@@ -41,10 +41,17 @@ pub type Times = [usize; 12];
 
 pub type Extras = [u8; 6144];
 
+// What stages 2 to 4 come to: at how many units Nout is above 0, and if there are any the position of the pair that gives verdict 2, or the end
+// of the walk over the pairs.
+pub struct Middle {
+    pub left: usize,
+    pub pair: usize,
+}
+
 // How many units there are before the first with Nout 0, from the responses without and with the fault, which the work area holds.
 fn open_units(job: Job, work: &[u8], nout: &mut Counts) -> usize
     requires { ⌜ (job .units ≤ 1024) × (job .outputs ≤ 256) × (job .units * job .outputs + job .units * job .outputs ≤ length (now work)) ⌝ }
-    ensures { λ r. ⌜ OpenFrom job (now (work .entry)) r ⌝ }
+    ensures { λ r. ⌜ OpenFrom job (now (work .entry)) (now (nout .exit)) r ⌝ }
 {
     let at = job.units * job.outputs;
     pending::outstanding(job.units, job.outputs, work, &work[at..], nout);
@@ -157,7 +164,74 @@ fn last_stages(
     )
 }
 
-// The verdict of stages 2 to 6. The work area begins with the fault-free responses and still does afterwards.
+// Stages 2 to 4. The work area begins with the fault-free responses, and still does afterwards.
+pub fn middle_stages(
+    c: &[u8],
+    job: Job,
+    t: &[u8],
+    pins: &[u16],
+    flops: &[usize],
+    outs: &[usize],
+    hits: &Hits,
+    masks: &Masks,
+    feed: &mut Feed,
+    words: &mut Words,
+    state: &mut State,
+    units: &mut Trials,
+    bits: &mut Trials,
+    row: &mut Row,
+    states: &mut Table,
+    list: &mut Table,
+    nout: &mut Counts,
+    work: &mut [u8],
+) -> Middle
+    requires { ⌜ (Tabled (now c) (now t) job (now pins) (now flops) (now outs)) × (Standing (now c) (now t) (now work)) ⌝ }
+    ensures { λ r. ⌜ Middling (now (c .entry)) (now (t .entry)) (now (hits .entry)) (now (masks .entry)) (now (states .exit)) (now (list .exit)) (now (nout .exit)) (now (work .exit)) r ⌝ }
+{
+    fault::trace(
+        c,
+        job,
+        t,
+        pins,
+        flops,
+        outs,
+        hits,
+        masks,
+        feed,
+        words,
+        state,
+        states,
+        work,
+    );
+    let left = open_units(job, work, nout);
+    if left == 0 {
+        return Middle { left, pair: 0 };
+    }
+    let walk = expand::expand(
+        c,
+        job,
+        t,
+        work,
+        states,
+        left,
+        pins,
+        flops,
+        outs,
+        hits,
+        masks,
+        feed,
+        words,
+        state,
+        units,
+        bits,
+        row,
+        list,
+    );
+    let pair = deciding(walk, job.flops * job.units);
+    Middle { left, pair }
+}
+
+// The verdict of stages 2 to 6.
 pub fn later_stages(
     c: &[u8],
     job: Job,
@@ -185,32 +259,10 @@ pub fn later_stages(
     requires { ⌜ (Gradable (now c) (now t) (now plan) k job (now pins) (now flops) (now outs)) × (Standing (now c) (now t) (now work)) ⌝ }
     ensures { λ r. ⌜ Graded (now (c .entry)) (now (t .entry)) (now (plan .entry)) k (now (hits .entry)) (now (masks .entry)) (now (work .exit)) r ⌝ }
 {
-    fault::trace(
+    let middle = middle_stages(
         c,
         job,
         t,
-        pins,
-        flops,
-        outs,
-        hits,
-        masks,
-        feed,
-        words,
-        state,
-        states,
-        work,
-    );
-    let left = open_units(job, work, nout);
-    if left == 0 {
-        return record::placed(5, 0, 0);
-    }
-    let walk = expand::expand(
-        c,
-        job,
-        t,
-        work,
-        states,
-        left,
         pins,
         flops,
         outs,
@@ -222,12 +274,16 @@ pub fn later_stages(
         units,
         bits,
         row,
+        states,
         list,
+        nout,
+        work,
     );
-    let none = job.flops * job.units;
-    let e = deciding(walk, none);
-    if e < none {
-        return at_pair(job.flops, flops, e);
+    if middle.left == 0 {
+        return record::placed(5, 0, 0);
+    }
+    if middle.pair < job.flops * job.units {
+        return at_pair(job.flops, flops, middle.pair);
     }
     last_stages(
         c,
@@ -236,7 +292,7 @@ pub fn later_stages(
         work,
         states,
         list,
-        left,
+        middle.left,
         plan,
         k,
         pins,

@@ -42,7 +42,7 @@ fn may_take(
 }
 
 // The extras of (0, i): bit i alone, 0 and 1.
-fn first_extras(size: usize, i: usize, m: usize, extras: &mut [u8])
+pub fn first_extras(size: usize, i: usize, m: usize, extras: &mut [u8])
     requires { ⌜ (i < size) × (m < 12) × (size ≤ 256) × (size * (2 * m + 1) + size ≤ length (now extras)) ⌝ }
     ensures { λ _. ⌜ now (extras .exit) ≡ withPair size m (set (replicate size X) i 0) (set (replicate size X) i 1) (now (extras .entry)) ⌝ }
 {
@@ -53,7 +53,7 @@ fn first_extras(size: usize, i: usize, m: usize, extras: &mut [u8])
 }
 
 // The extra of the value that a lane tries for a pair at unit u, in row r: nothing where the lane is marked.
-fn lane_extra(
+pub fn lane_extra(
     size: usize,
     states: &[u8],
     u: usize,
@@ -212,7 +212,7 @@ fn meets_pair(size: usize, extras: &[u8], m: usize, times: &[usize], u: usize, q
 }
 
 // Whether either extra of pair m, of unit u, overlaps the state list there or the extras of a pair before it, from the last to the first.
-fn touches(size: usize, list: &[u8], u: usize, times: &[usize], m: usize, extras: &[u8]) -> bool
+pub fn touches(size: usize, list: &[u8], u: usize, times: &[usize], m: usize, extras: &[u8]) -> bool
     requires { ⌜ (m < 12) × (m ≤ length (now times)) × (size * u + size ≤ length (now list)) × (size * (2 * m + 1) + size ≤ length (now extras)) ⌝ }
     ensures { λ r. ⌜ Touched size (now (list .entry)) u (now (times .entry)) m (now (extras .entry)) r ⌝ }
 {
@@ -226,7 +226,7 @@ fn touches(size: usize, list: &[u8], u: usize, times: &[usize], m: usize, extras
 }
 
 // The pair (u, i) of the plan, behind m pairs taken: how many are taken then.
-fn take_pair(
+pub fn take_pair(
     c: &[u8],
     job: Job,
     t: &[u8],
