@@ -228,7 +228,10 @@ module _ (c t : List ℕ) (f : Fault) where
     unfolding stage4
     unopposed e u i h k = firstPair-none (λ u i. opposedWrite c t f u i) (L c t) (F c) u i (atPair-none _ _ e) h k
 
-    pub sequence-clear : stage4 c t f ≡ none → (p : List ℕ) (k b u : ℕ) → u < L c t → hasConflict (sequenceRow c t f (taken c t f p k) b u) ≡ false
+    -- the state list
+    pub list-three : stage4 c t f ≡ none → (u : ℕ) → u < L c t → ThreeValued (stateRow c t f u)
     unfolding stateRow
-    sequence-clear e p k b u h =
-        three-clear _ (sequence-three (taken c t f p k) b u (rowAfter-three u (F c) (λ i l. unopposed e u i h l)) (taken-apart p k) .at)
+    list-three e u h = rowAfter-three u (F c) (λ i l. unopposed e u i h l)
+
+    pub sequence-clear : stage4 c t f ≡ none → (p : List ℕ) (k b u : ℕ) → u < L c t → hasConflict (sequenceRow c t f (taken c t f p k) b u) ≡ false
+    sequence-clear e p k b u h = three-clear _ (sequence-three (taken c t f p k) b u (list-three e u h) (taken-apart p k) .at)

@@ -14,6 +14,7 @@ use Rattle.model.specs.Accepted.{ThreeValued}
 use Rattle.model.specs.Values.{X, isSpecified, opposes, someOppose, give, giveRow}
 use Rattle.model.specs.Implication.{whereX}
 use Rattle.model.specs.Sequences.{overlaps}
+use Rattle.model.specs.Choose.{size}
 use Rattle.rows.proofs.Laws.{length-whereX}
 
 -- ---- opposite values, by the tests that are made
@@ -56,6 +57,16 @@ opposing-more = some-more opposes someOppose (unfold someOppose in refl) (λ a b
 pub overlap-more : (xs ys : List ℕ) (s : ℕ) (found here : Bool) → s < length xs → s < length ys → here ≡ (isSpecified (getD xs s 0) && isSpecified (getD ys s 0))
     → found ≡ overlaps (take s xs) (take s ys) → (found || here) ≡ overlaps (take (s + 1) xs) (take (s + 1) ys)
 overlap-more = some-more (λ a b. isSpecified a && isSpecified b) overlaps (unfold overlaps in refl) (λ a b xs ys. unfold overlaps in refl)
+
+-- ---- how many places are specified
+pub size-more : (xs : List ℕ) (s found here : ℕ) → s < length xs → here ≡ cond (isSpecified (getD xs s 0)) 1 0 → found ≡ size (take s xs) → found + here ≡ size (take (s + 1) xs)
+unfolding size
+size-more [] s found here h e p = absurd (let z : ⊥ = omega arith in z)
+size-more (a ∷ xs) zero found here h e p = rw (e, p) (omega arith)
+size-more (a ∷ xs) (suc s) found here h e p =
+    let next : suc s + 1 ≡ suc (s + 1) = omega arith in
+    let tail : size (take s xs) + here ≡ size (take (s + 1) xs) = size-more xs s _ here (omega arith) e refl in
+    rw next (omega (arith, p, tail))
 
 -- ---- a row made of two, place by place
 module _ (g : ℕ → ℕ → ℕ) (Row : List ℕ → List ℕ → List ℕ) (more : (a b : ℕ) (xs ys : List ℕ) → Row (a ∷ xs) (b ∷ ys) ≡ g a b ∷ Row xs ys) where

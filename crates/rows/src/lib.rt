@@ -10,6 +10,7 @@ ghost use Rattle.model.specs.Accepted.{ThreeValued};
 ghost use Rattle.model.specs.Values.{X, opposes, someOppose, giveRow};
 ghost use Rattle.model.specs.Implication.{whereX};
 ghost use Rattle.model.specs.Sequences.{overlaps};
+ghost use Rattle.model.specs.Choose.{size};
 ghost use Rattle.lanes.specs.Lane.{Lane, Room};
 
 // The first so many bytes of an area, at the beginning of another: a row, or a whole table of them.
@@ -82,6 +83,20 @@ pub fn give_row(extra: &[u8], count: usize, row: &mut [u8]) -> bool
         let b = extra[s];
         found = basics::either(found, opposing(a, b));
         row[s] = if_x(a, b, a);
+        s += 1;
+    }
+    found
+}
+
+// How many places are specified.
+pub fn specified(row: &[u8], count: usize) -> usize
+    requires { ⌜ count ≤ length (now row) ⌝ }
+    ensures { λ r. ⌜ (r ≡ size (take count (now (row .entry)))) × (r ≤ count) ⌝ }
+{
+    let mut found: usize = 0;
+    let mut s: usize = 0;
+    while s < count {
+        found += basics::one_if(row[s] <= 1);
         s += 1;
     }
     found

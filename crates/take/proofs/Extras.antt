@@ -71,31 +71,45 @@ one-pair c t units bits u i eu eb lu lb early flop = record {
   bit = λ p h. let first : p ≡ 0 = omega arith in rw (first, eb) flop;
 }
 
+-- ---- the extras of a pair (u, i) that two lanes try
+module _ (c t : List ℕ) (f : Fault) (states : List ℕ) (u i marks : ℕ) (after : List ℕ) (binary : f .value < 2) (late : 0 < u) (early : u < L c t)
+    (plain : Rows (F c) (L c t) states (λ u. plainState c t f u)) where
+  -- what a lane that tries α says
+  pub record Says (lane α : ℕ) : Type 0 where
+    pub mark : bit lane marks ≡ marked c t f u i α
+    pub shown : marked c t f u i α ≡ false → Lane lane after (nextState c f (impliedAt c t f (u - 1) i α))
+
+  -- the row that a lane's extra was written to
+  lane-row : (lane α size r : ℕ) (extras extras′ : List ℕ) → Says lane α → size ≡ F c → LaneExtra size states u after marks lane r extras extras′ → extras′ ≡ withRow (F c) r (extra c t f u i α) extras
+  lane-row lane α size r extras extras′ says es made = by-test (bit lane marks)
+      (λ e. made .marked e c es ∙ rw (es, extra-marked c t f u i α late (sym (says .mark) ∙ e)))
+      (λ e.
+      let off : marked c t f u i α ≡ false = sym (says .mark) ∙ e in
+      made .shown e (nextState c f (impliedAt c t f (u - 1) i α)) (says .shown off) (length-nextState c f _ ∙ sym es)
+      (nextState-three c f binary _ (implied-three c t f u i α late off)) ∙ rw (es, plain .at u early, extra-shown c t f u i α late off))
+
+  pub lanes-made : (lane lane′ size m : ℕ) (extras extras′ extras″ : List ℕ) → Says lane 0 → Says lane′ 1 → size ≡ F c → LaneExtra size states u after marks lane (2 * m) extras extras′
+      → LaneExtra size states u after marks lane′ (2 * m + 1) extras′ extras″ → extras″ ≡ withPair (F c) m (extra c t f u i 0) (extra c t f u i 1) extras
+  unfolding withPair
+  lanes-made lane lane′ size m extras extras′ extras″ low high es made made′ =
+      lane-row lane′ 1 size (2 * m + 1) extras′ extras″ high es made′
+      ∙ ap (λ x. withRow (F c) (2 * m + 1) (extra c t f u i 1) x) (lane-row lane 0 size (2 * m) extras extras′ low es made)
+
 -- ---- a trial of one pair
 module _ (c t : List ℕ) (f : Fault) (free states hits masks units bits : List ℕ) (u i marks : ℕ) (words after : List ℕ) (binary : f .value < 2) (late : 0 < u) (early : u < L c t)
     (eu : getD units 0 0 ≡ u - 1) (eb : getD bits 0 0 ≡ i) (stuck : (lane : ℕ) → lane < 64 → Stuck lane hits masks f)
     (plain : Rows (F c) (L c t) states (λ u. plainState c t f u)) (frees : Rows (O c) (L c t) free (λ u. freeOutputs c t u)) (tried : Tried c t free states units bits hits masks 1 marks words)
     (shown : (lane : ℕ) (f : Fault) (vs : List ℕ) → Stuck lane hits masks f → Lane lane words vs → length vs ≡ N c → Lane lane after (nextState c f vs)) where
-  module _ (α : ℕ) (few : α < 2) where
-    said : (bit α marks ≡ marked c t f u i α) × (marked c t f u i α ≡ false → Lane α words (impliedAt c t f (u - 1) i α))
-    said =
-        let half : α / 2 ≡ 0 = omega arith in
-        let rest : α % 2 ≡ α = omega arith in
-        let unit : suc (u - 1) ≡ u = omega arith in
-        rw (half, rest, eu, eb, unit) at (tried .lane f stuck (plain .at) (frees .at) α (omega arith) (omega arith))
+  said : (α : ℕ) → α < 2 → (bit α marks ≡ marked c t f u i α) × (marked c t f u i α ≡ false → Lane α words (impliedAt c t f (u - 1) i α))
+  said α few =
+      let half : α / 2 ≡ 0 = omega arith in
+      let rest : α % 2 ≡ α = omega arith in
+      let unit : suc (u - 1) ≡ u = omega arith in
+      rw (half, rest, eu, eb, unit) at (tried .lane f stuck (plain .at) (frees .at) α (omega arith) (omega arith))
 
-    -- the row that a lane's extra was written to
-    lane-row : (size r : ℕ) (extras extras′ : List ℕ) → size ≡ F c → LaneExtra size states u after marks α r extras extras′ → extras′ ≡ withRow (F c) r (extra c t f u i α) extras
-    lane-row size r extras extras′ es made = by-test (bit α marks)
-        (λ e. made .marked e c es ∙ rw (es, extra-marked c t f u i α late (sym (said .0) ∙ e)))
-        (λ e.
-        let off : marked c t f u i α ≡ false = sym (said .0) ∙ e in
-        made .shown e (nextState c f (impliedAt c t f (u - 1) i α)) (shown α f _ (stuck α (omega arith)) (said .1 off) (length-implied c t f _ _ _)) (length-nextState c f _ ∙ sym es)
-        (nextState-three c f binary _ (implied-three c t f u i α late off)) ∙ rw (es, plain .at u early, extra-shown c t f u i α late off))
+  says : (α : ℕ) → α < 2 → Says c t f states u i marks after binary late early plain α α
+  says α few = record { mark = said α few .0; shown = λ off. shown α f _ (stuck α (omega arith)) (said α few .1 off) (length-implied c t f _ _ _) }
 
   pub pair-made : (size m : ℕ) (extras extras′ extras″ : List ℕ) → size ≡ F c → LaneExtra size states u after marks 0 (2 * m) extras extras′ → LaneExtra size states u after marks 1 (2 * m + 1) extras′ extras″
       → extras″ ≡ withPair (F c) m (extra c t f u i 0) (extra c t f u i 1) extras
-  unfolding withPair
-  pair-made size m extras extras′ extras″ es low high =
-      lane-row 1 (omega arith) size (2 * m + 1) extras′ extras″ es high
-      ∙ ap (λ x. withRow (F c) (2 * m + 1) (extra c t f u i 1) x) (lane-row 0 (omega arith) size (2 * m) extras extras′ es low)
+  pair-made size m extras extras′ extras″ es low high = lanes-made c t f states u i marks after binary late early plain 0 1 size m extras extras′ extras″ (says 0 (omega arith)) (says 1 (omega arith)) es low high

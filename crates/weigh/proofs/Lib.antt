@@ -1,0 +1,2 @@
+-- Laws of weighing pairs.
+pub mod Laws

@@ -1,0 +1,2 @@
+-- What weighing the pairs asks for and gives.
+pub mod Weigh

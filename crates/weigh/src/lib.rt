@@ -1,0 +1,249 @@
+// Weighing pairs for Choose: of each pair of a time unit and a flip-flop, whether stage 5 would take it next, and how many bits its two extras give.
+// That is kept in a table, so that a pick works out no implication: after it only the pairs of its own unit are weighed again, for a pair touches
+// nothing at other units.
+ghost use mathlib.Core.Path.{_≡_};
+ghost use mathlib.Core.Bool.{true};
+ghost use Prim.Native.Nat.{_+_, _*_, _/_, _<_, _≤_, min, max};
+ghost use lib.ListN.{length};
+ghost use Rattle.lists.specs.Field.{overwritten, rowOf};
+ghost use Rattle.model.specs.Inputs.{F, O, L};
+ghost use Rattle.model.specs.Choose.{size};
+ghost use Rattle.expand.specs.Expand.{isX, pairAt};
+ghost use Rattle.best.specs.Weights.{weightBytes};
+ghost use Rattle.stages.specs.Stages.{Tabled};
+ghost use Rattle.weigh.specs.Weigh.{EntryMade, WeighedAt, WeighedWord, WeighedFrom, WeighedFirst, WeighedStart};
+use job::Job;
+use stages::Extras;
+use stages::Feed;
+use stages::Hits;
+use stages::Masks;
+use stages::State;
+use stages::Table;
+use stages::Times;
+use stages::Trials;
+use stages::Words;
+
+// Two numbers, the smaller first.
+pub struct Sizes {
+    pub small: usize,
+    pub large: usize,
+}
+
+fn in_order(a: usize, b: usize) -> Sizes
+    ensures { λ r. ⌜ (r .small ≡ min a b) × (r .large ≡ max a b) ⌝ }
+{
+    if b < a {
+        return Sizes { small: b, large: a };
+    }
+    Sizes { small: a, large: b }
+}
+
+// An entry, at the beginning of the part of the table that it begins.
+fn put_weight(entry: &mut [u8], first: usize, second: usize)
+    requires { ⌜ 4 ≤ length (now entry) ⌝ }
+    ensures { λ _. ⌜ now (entry .exit) ≡ overwritten (weightBytes first second) (now (entry .entry)) ⌝ }
+{
+    record::put16(entry, 0, first);
+    record::put16(entry, 2, second);
+}
+
+// How many bits the extra in row r gives.
+fn row_size(count: usize, extras: &[u8], r: usize) -> usize
+    requires { ⌜ count * r + count ≤ length (now extras) ⌝ }
+    ensures { λ n. ⌜ (n ≡ size (rowOf count (now (extras .entry)) r)) × (n ≤ count) ⌝ }
+{
+    let at = count * r;
+    let to = at + count;
+    rows::specified(&extras[at..to], count)
+}
+
+// The entry of a pair at unit u, whose extras are in the rows of pair m, behind those of the pairs taken.
+fn enter(
+    count: usize,
+    list: &Table,
+    u: usize,
+    times: &Times,
+    m: usize,
+    extras: &Extras,
+    entry: &mut [u8],
+)
+    requires { ⌜ (count ≤ 256) × (count * u + count ≤ 262144) × (m < 12) × (4 ≤ length (now entry)) ⌝ }
+    ensures { λ _. ⌜ EntryMade count (now (list .entry)) u (now (times .entry)) m (now (extras .entry)) (now (entry .entry)) (now (entry .exit)) ⌝ }
+{
+    if take::touches(count, list, u, times, m, extras) {
+        put_weight(entry, 0, 0);
+        return;
+    }
+    let zero = row_size(count, extras, 2 * m);
+    let one = row_size(count, extras, 2 * m + 1);
+    let sizes = in_order(zero, one);
+    put_weight(entry, sizes.small + 1, sizes.large);
+}
+
+// The entry of the pair at position e, which is pair p of a word if its bit is X in the state list.
+fn weigh_at(
+    count: usize,
+    states: &Table,
+    list: &Table,
+    after: &State,
+    marks: u64,
+    p: usize,
+    e: usize,
+    m: usize,
+    times: &Times,
+    extras: &mut Extras,
+    table: &mut [u8],
+)
+    requires { ⌜ (0 < count) × (count ≤ 256) × (e < 262144) × (count * (e / count) + count ≤ 262144) × (isX (now list) e ≡ true → p < 32) × (m < 12) × (4 * e + 4 ≤ length (now table)) ⌝ }
+    ensures { λ _. ⌜ WeighedAt count (now (states .entry)) (now (list .entry)) (now (after .entry)) marks p e m (now (times .entry)) (now (extras .entry)) (now (table .entry))
+        (now (extras .exit)) (now (table .exit)) ⌝ }
+{
+    let at = 4 * e;
+    if list[e] != 2 {
+        put_weight(&mut table[at..], 0, 0);
+        return;
+    }
+    let u = e / count;
+    take::lane_extra(count, states, u, after, marks, 2 * p, 2 * m, extras);
+    take::lane_extra(
+        count,
+        states,
+        u,
+        after,
+        marks,
+        2 * p + 1,
+        2 * m + 1,
+        extras,
+    );
+    enter(count, list, u, times, m, extras, &mut table[at..]);
+}
+
+// The entries of the pairs of a word, from position `at` to `next`.
+fn weigh_word(
+    count: usize,
+    states: &Table,
+    list: &Table,
+    after: &State,
+    marks: u64,
+    at: usize,
+    next: usize,
+    m: usize,
+    times: &Times,
+    extras: &mut Extras,
+    table: &mut [u8],
+)
+    requires { ⌜ (0 < count) × (count ≤ 256) × (at ≤ next) × (next ≤ 1024 * count) × (pairAt (now list) at next ≤ 32) × (m < 12) × (4 * next ≤ length (now table)) ⌝ }
+    ensures { λ _. ⌜ WeighedWord count (now (states .entry)) (now (list .entry)) (now (after .entry)) marks at next m (now (times .entry)) (now (extras .entry)) (now (table .entry))
+        (now (extras .exit)) (now (table .exit)) ⌝ }
+{
+    let mut p: usize = 0;
+    let mut e = at;
+    while e < next {
+        weigh_at(
+            count, states, list, after, marks, p, e, m, times, extras, table,
+        );
+        p += basics::one_if(list[e] == 2);
+        e += 1;
+    }
+}
+
+// The entries of the pairs from position `from` to `to`, of units above 0, a word of up to 32 pairs after another.
+pub fn weigh(
+    c: &[u8],
+    job: Job,
+    t: &[u8],
+    free: &Table,
+    states: &Table,
+    list: &Table,
+    from: usize,
+    to: usize,
+    left: usize,
+    m: usize,
+    pins: &[u16],
+    flops: &[usize],
+    outs: &[usize],
+    hits: &Hits,
+    masks: &Masks,
+    feed: &mut Feed,
+    words: &mut Words,
+    state: &mut State,
+    units: &mut Trials,
+    bits: &mut Trials,
+    times: &Times,
+    extras: &mut Extras,
+    table: &mut [u8],
+)
+    requires { ⌜ (Tabled (now c) (now t) job (now pins) (now flops) (now outs)) × (F (now c) ≤ from) × (from ≤ to) × (to ≤ L (now c) (now t) * F (now c)) × (m < 12)
+        × (4 * to ≤ length (now table)) ⌝ }
+    ensures { λ _. ⌜ WeighedFrom (now (c .entry)) (now (t .entry)) (now (free .entry)) (now (states .entry)) (now (list .entry)) (now (hits .entry)) (now (masks .entry)) left from to m
+        (now (times .entry)) (now (extras .entry)) (now (table .entry)) (now (extras .exit)) (now (table .exit)) ⌝ }
+{
+    let mut at = from;
+    while at < to {
+        let batch = expand::fill(job.flops, list, at, to, units, bits);
+        let marks = trial::try_pairs(
+            c,
+            job,
+            t,
+            free,
+            states,
+            units,
+            bits,
+            batch.count,
+            pins,
+            flops,
+            outs,
+            hits,
+            masks,
+            feed,
+            words,
+            state,
+        );
+        unit::next_state(c, flops, job.flops, hits, masks, words, state);
+        weigh_word(
+            job.flops, states, list, state, marks, at, batch.next, m, times, extras, table,
+        );
+        at = batch.next;
+    }
+}
+
+// The entry of (0, i).
+fn weigh_first(
+    count: usize,
+    list: &Table,
+    i: usize,
+    m: usize,
+    times: &Times,
+    extras: &mut Extras,
+    table: &mut [u8],
+)
+    requires { ⌜ (count ≤ 256) × (i < count) × (m < 12) × (4 * i + 4 ≤ length (now table)) ⌝ }
+    ensures { λ _. ⌜ WeighedFirst count (now (list .entry)) i m (now (times .entry)) (now (extras .entry)) (now (table .entry)) (now (extras .exit)) (now (table .exit)) ⌝ }
+{
+    let at = 4 * i;
+    if list[i] != 2 {
+        put_weight(&mut table[at..], 0, 0);
+        return;
+    }
+    take::first_extras(count, i, m, extras);
+    enter(count, list, 0, times, m, extras, &mut table[at..]);
+}
+
+// The entries of unit 0, whose pairs need no trial.
+pub fn weigh_start(
+    count: usize,
+    list: &Table,
+    m: usize,
+    times: &Times,
+    extras: &mut Extras,
+    table: &mut [u8],
+)
+    requires { ⌜ (count ≤ 256) × (m < 12) × (4 * count ≤ length (now table)) ⌝ }
+    ensures { λ _. ⌜ WeighedStart count (now (list .entry)) m (now (times .entry)) (now (extras .entry)) (now (table .entry)) (now (extras .exit)) (now (table .exit)) ⌝ }
+{
+    let mut i: usize = 0;
+    while i < count {
+        weigh_first(count, list, i, m, times, extras, table);
+        i += 1;
+    }
+}
