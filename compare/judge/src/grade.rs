@@ -1,6 +1,6 @@
 //! The call Grade: refuses a job or writes one record of 16 bytes per fault.
 
-use crate::refusals::{read, Refusal};
+use crate::refusals::{read_for_grade, Refusal};
 use crate::stages::{Record, Stages};
 
 /// The number of records written, or number and position of a refusal.
@@ -13,7 +13,7 @@ pub fn grade(
     work_len: usize,
     result: &mut [u8],
 ) -> Result<usize, Refusal> {
-    let job = read(circuit, test, faults, plan, k, work_len, result.len())?;
+    let job = read_for_grade(circuit, test, faults, plan, k, work_len, result.len())?;
     let mut stages = Stages::new(&job);
     for (&fault, area) in job.faults.iter().zip(result.chunks_exact_mut(16)) {
         write(stages.grade(fault), area);

@@ -70,10 +70,10 @@ impl Shape {
         roles
     }
 
-    /// Three outputs in four are gates, the rest any lines.
+    /// Three outputs in four are gates, the rest any lines; of few lines all are outputs.
     fn choose_outputs(&self, roles: &[Role], random: &mut Random) -> Vec<bool> {
         let mut is_output = vec![false; roles.len()];
-        let mut missing = self.outputs;
+        let mut missing = self.outputs.min(roles.len());
         while missing > 0 {
             let line = random.below(roles.len());
             let many_gates = self.gates > 2 * self.outputs;

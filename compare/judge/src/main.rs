@@ -2,18 +2,23 @@
 
 mod bench;
 mod bytes;
+mod calls;
+mod choose;
 mod circuit;
 mod grade;
+mod group;
 mod hidden;
 mod implication;
 mod jobs;
 #[cfg(feature = "library")]
 mod measure;
 mod model_jobs;
+mod program;
 mod random;
 mod refusals;
 mod s27;
 mod search;
+mod simulate;
 mod simulation;
 mod specimens;
 mod stages;
@@ -50,7 +55,10 @@ fn check_specimens() -> io::Result<()> {
     let differences = [specimens::differences(), model_jobs::differences()].concat();
     differences.iter().for_each(|difference| println!("{difference}"));
     if differences.is_empty() {
-        println!("all eleven specimen verdicts and all {} jobs of the model agree", model_jobs::jobs().len());
+        println!(
+            "all eleven specimen verdicts, the print of A and all {} jobs of the model agree",
+            model_jobs::jobs().len()
+        );
         return Ok(());
     }
     Err(io::Error::other("some verdicts differ"))

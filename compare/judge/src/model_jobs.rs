@@ -1,6 +1,7 @@
 //! Small jobs of the model with their stated results, as data, and whether this grader agrees with them.
 
-use crate::bytes::{LentJob, Line};
+use crate::bytes::{plan_bytes, LentJob, Line};
+use crate::calls::{Call, Kind};
 
 /// A job of one fault and the first eight fields stated for it.
 struct ModelJob {
@@ -49,15 +50,20 @@ impl ChosenPlan {
         LentJob::of_one_fault(self.circuit, self.test, self.fault, self.plan, self.k)
     }
 
-    /// Grade takes every pair that Choose writes; none is written for verdicts 1, 2 and 5.
+    /// Choose writes these pairs, and Grade takes every one; none is written for verdicts 1, 2 and 5.
     fn difference(&self, position: usize) -> Option<String> {
-        let records = self.lent().records();
+        let job = self.lent();
+        let records = job.records();
         let agrees = |record: &[u16; 9]| match record[0] {
             1 | 2 | 5 => self.plan.is_empty(),
             _ => record[1] as usize == self.plan.len(),
         };
-        let agrees = matches!(&records, Ok(records) if agrees(&records[0]));
-        (!agrees).then(|| format!("chosen plan {position}: {records:?}, stated {:?}", self.plan))
+        let taken = matches!(&records, Ok(records) if agrees(&records[0]));
+        let result_len = 4 * job.k;
+        let answer = Call { kind: Kind::Choose, job: LentJob { result_len, ..job }, verdicts: vec![] }.answer();
+        let written = answer.done == Ok(self.plan.len()) && answer.result.starts_with(&plan_bytes(self.plan));
+        let found = || format!("chosen plan {position}: {:?}, {records:?}, stated {:?}", answer.result, self.plan);
+        (!taken || !written).then(found)
     }
 }
 

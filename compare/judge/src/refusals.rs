@@ -1,11 +1,12 @@
-//! Rows 1 to 14 of the table of refusals, down the table; a job that passes them all is handed on decoded.
+//! Rows 1 to 14 of the table of refusals, down the table; a job that passes the rows of its call is handed on decoded.
 
 use crate::circuit::{Circuit, Fault};
+use std::ops::RangeInclusive;
 
 /// The number of the row and the position.
 pub type Refusal = (u8, usize);
 
-/// A job that no row refuses.
+/// A job that no row refuses; a call that takes no plan and no k has none and 0.
 pub struct Job<'a> {
     pub circuit: Circuit,
     pub test: &'a [u8],
@@ -16,8 +17,22 @@ pub struct Job<'a> {
     pub k: usize,
 }
 
-/// Reads a job or refuses it.
-pub fn read<'a>(
+/// Reads a job of Simulate, with at most one fault, or refuses it.
+pub fn read_for_simulate<'a>(
+    circuit: &[u8],
+    test: &'a [u8],
+    faults: &[u8],
+    work_len: usize,
+    result_len: usize,
+) -> Result<Job<'a>, Refusal> {
+    let job = read_simulation(circuit, test, faults, 0..=1)?;
+    let response_len = job.time_units * job.circuit.outputs.len();
+    check_areas(&job, work_len, response_len, result_len)?;
+    Ok(job)
+}
+
+/// Reads a job of Grade or refuses it.
+pub fn read_for_grade<'a>(
     circuit: &[u8],
     test: &'a [u8],
     faults: &[u8],
@@ -26,20 +41,58 @@ pub fn read<'a>(
     work_len: usize,
     result_len: usize,
 ) -> Result<Job<'a>, Refusal> {
+    let mut job = read_simulation(circuit, test, faults, 0..=32_768)?;
+    job.plan = read_plan(plan)?;
+    job.k = read_k(k)?;
+    check_areas(&job, work_len, 16 * job.faults.len(), result_len)?;
+    Ok(job)
+}
+
+/// Reads a job of Choose, with exactly one fault, or refuses it.
+pub fn read_for_choose<'a>(
+    circuit: &[u8],
+    test: &'a [u8],
+    faults: &[u8],
+    k: usize,
+    work_len: usize,
+    result_len: usize,
+) -> Result<Job<'a>, Refusal> {
+    let mut job = read_simulation(circuit, test, faults, 1..=1)?;
+    job.k = read_k(k)?;
+    check_areas(&job, work_len, 4 * k, result_len)?;
+    Ok(job)
+}
+
+/// Rows 1 to 10, the number of faults being within what the call takes.
+fn read_simulation<'a>(
+    circuit: &[u8],
+    test: &'a [u8],
+    faults: &[u8],
+    fault_count: RangeInclusive<usize>,
+) -> Result<Job<'a>, Refusal> {
     let circuit = read_circuit(circuit)?;
     let time_units = read_test(&circuit, test)?;
-    let faults = read_faults(&circuit, faults)?;
-    let plan = read_plan(plan)?;
+    let faults = read_faults(&circuit, faults, fault_count)?;
+    Ok(Job { circuit, test, time_units, faults, plan: Vec::new(), k: 0 })
+}
+
+/// Row 12.
+fn read_k(k: usize) -> Result<usize, Refusal> {
     if k > 12 {
         return Err((12, 0));
     }
-    if work_len < work_needed(&circuit, time_units) {
+    Ok(k)
+}
+
+/// Rows 13 and 14.
+fn check_areas(job: &Job, work_len: usize, result_needed: usize, result_len: usize) -> Result<(), Refusal> {
+    if work_len < work_needed(&job.circuit, job.time_units) {
         return Err((13, 0));
     }
-    if result_len < 16 * faults.len() {
+    if result_len < result_needed {
         return Err((14, 0));
     }
-    Ok(Job { circuit, test, time_units, faults, plan, k })
+    Ok(())
 }
 
 /// 4 × N + L × (4 × O + 16 × F + 8) bytes.
@@ -114,8 +167,8 @@ fn read_test(circuit: &Circuit, test: &[u8]) -> Result<usize, Refusal> {
 }
 
 /// Rows 9 and 10.
-fn read_faults(circuit: &Circuit, bytes: &[u8]) -> Result<Vec<Fault>, Refusal> {
-    if !bytes.len().is_multiple_of(4) || bytes.len() / 4 > 32_768 {
+fn read_faults(circuit: &Circuit, bytes: &[u8], count: RangeInclusive<usize>) -> Result<Vec<Fault>, Refusal> {
+    if !bytes.len().is_multiple_of(4) || !count.contains(&(bytes.len() / 4)) {
         return Err((9, 0));
     }
     let mut faults = Vec::with_capacity(bytes.len() / 4);

@@ -4,7 +4,7 @@ use crate::bytes::{fault_bytes, LentJob};
 use crate::circuit::Fault;
 use crate::jobs::every_fault;
 use crate::random::Random;
-use crate::refusals::{read, Job};
+use crate::refusals::{read_for_grade, Job};
 use crate::stages::{Implied, Stages};
 
 /// A fault as line, pin and value.
@@ -112,5 +112,5 @@ fn faults_that(job: &LentJob, holds: impl Fn(&mut Stages, Fault) -> bool) -> Vec
 
 fn read_job(job: &LentJob) -> Job<'_> {
     let LentJob { circuit, test, faults, plan, .. } = job;
-    read(circuit, test, faults, plan, job.k, job.work_len, job.result_len).expect("the job is accepted")
+    read_for_grade(circuit, test, faults, plan, job.k, job.work_len, job.result_len).expect("the job is accepted")
 }

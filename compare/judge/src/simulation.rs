@@ -84,3 +84,16 @@ pub fn next_state(circuit: &Circuit, fault: Fault, values: &[u8], state: &mut [u
         *bit = if fault.sticks_pin(flip_flop.line, 0) { fault.value } else { values[flip_flop.pin_line] };
     }
 }
+
+/// The plain response, every flip-flop starting at X: by time, then output line.
+pub fn response(circuit: &Circuit, fault: Fault, test: &[u8]) -> Vec<u8> {
+    let mut values = vec![X; circuit.line_count];
+    let mut state = vec![X; circuit.flip_flops.len()];
+    let mut response = Vec::new();
+    for unit in test.chunks_exact(circuit.inputs.len()) {
+        simulate_unit(circuit, fault, unit, &state, &mut values);
+        response.extend(circuit.outputs.iter().map(|&line| values[line]));
+        next_state(circuit, fault, &values, &mut state);
+    }
+    response
+}

@@ -1,6 +1,7 @@
 //! The specimens of the scope: three small circuits and the eleven verdicts given for them.
 
 use crate::bytes::{circuit_bytes, fault_bytes, LentJob, Line};
+use crate::program;
 
 /// Input 0; flip-flop 1 of 3, output; 2 = NOT 1; 3 = AND 0, 2.
 const A: &[Line] = &[(0, 0, &[]), (1, 1, &[3]), (3, 0, &[1]), (4, 0, &[0, 2])];
@@ -42,19 +43,42 @@ impl Specimen {
     }
 }
 
-/// The eleven jobs, then A with its whole fault list.
-pub fn jobs() -> Vec<LentJob> {
-    let whole = fault_bytes(&[(0, 0, 1), (0, 0, 0), (3, 0, 1), (3, 1, 1)]);
-    let whole = LentJob::new(circuit_bytes(A), vec![0, 0, 0], whole, vec![], 6);
-    ELEVEN.iter().map(Specimen::lent).chain([whole]).collect()
+/// The faults of A's whole print.
+const FAULTS_OF_A: [(usize, usize, u8); 4] = [(0, 0, 1), (0, 0, 0), (3, 0, 1), (3, 1, 1)];
+
+/// A's whole print under the test 0 0 0 with an empty plan.
+const PRINT_OF_A: &str = "0 0 1 3 0 0 0 1 0 0 0 0\n\
+                          0 0 0 5 0 0 0 0 0 0 0 1\n\
+                          3 0 1 1 0 1 1 0 0 0 0 2\n\
+                          3 1 1 3 0 0 0 1 0 0 0 0\n";
+
+/// A with its whole fault list.
+fn whole_of_a() -> LentJob {
+    LentJob::new(circuit_bytes(A), vec![0, 0, 0], fault_bytes(&FAULTS_OF_A), vec![], 6)
 }
 
-/// Every specimen on which this grader gives something else than the scope.
+/// The eleven jobs, then A with its whole fault list.
+pub fn jobs() -> Vec<LentJob> {
+    ELEVEN.iter().map(Specimen::lent).chain([whole_of_a()]).collect()
+}
+
+/// Every specimen on which this grader gives something else than the scope, the print of A among them.
 pub fn differences() -> Vec<String> {
     let difference = |specimen: &Specimen| {
         let records = specimen.lent().records();
         let agrees = records == Ok(vec![specimen.fields]);
         (!agrees).then(|| format!("{}: {records:?}, stated {:?}", specimen.name, specimen.fields))
     };
-    ELEVEN.iter().filter_map(difference).collect()
+    let LentJob { circuit, test, faults, plan, .. } = whole_of_a();
+    let print = program::print([&circuit, &test, &faults, &plan]);
+    let print = (print != PRINT_OF_A).then(|| format!("print of A:\n{print}stated:\n{PRINT_OF_A}"));
+    ELEVEN.iter().filter_map(difference).chain(print).collect()
+}
+
+#[cfg(test)]
+mod tests {
+    #[test]
+    fn specimens_are_as_stated() {
+        assert_eq!(super::differences(), Vec::<String>::new());
+    }
 }

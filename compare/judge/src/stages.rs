@@ -1,12 +1,15 @@
 //! The six stages for one fault, in order; the first that gives a verdict ends the fault's work.
-//! Stages 1 to 4 stand here, 5 and 6 in `sequences`.
+//! Stages 1 to 4 stand here, 5 and 6 in `sequences`, the pairs of Choose in `choices`.
 
+mod choices;
 mod sequences;
+
+pub use choices::Choice;
 
 use crate::circuit::Fault;
 use crate::implication::imply;
 use crate::refusals::Job;
-use crate::simulation::{next_state, opposes, simulate_unit, X};
+use crate::simulation::{next_state, opposes, response, simulate_unit, X};
 
 /// The fields of a verdict record; those not named for a verdict are 0.
 #[derive(Clone, Copy, Default, PartialEq, Debug)]
@@ -57,10 +60,10 @@ impl<'a> Stages<'a> {
     /// Simulates the fault-free circuit, once for all faults.
     pub fn new(job: &'a Job<'a>) -> Self {
         let (lines, bits) = (job.circuit.line_count, job.circuit.flip_flops.len());
-        let mut stages = Stages {
+        Stages {
             job,
             fault: Fault::NONE,
-            response: Vec::new(),
+            response: response(&job.circuit, Fault::NONE, job.test),
             states: vec![X; job.time_units * bits],
             list: vec![X; job.time_units * bits],
             nout: vec![0; job.time_units],
@@ -68,13 +71,7 @@ impl<'a> Stages<'a> {
             trials: [vec![X; lines], vec![X; lines]],
             state: vec![X; bits],
             own_list: vec![X; bits],
-        };
-        for u in 0..job.time_units {
-            stages.simulate(u);
-            stages.response.extend(job.circuit.outputs.iter().map(|&line| stages.values[line]));
-            stages.step();
         }
-        stages
     }
 
     /// The record of one fault.

@@ -6,10 +6,17 @@ use crate::simulation::{opposes, X};
 /// A bit that an implication gives: flip-flop index and value.
 type Bit = (usize, u8);
 
-/// A taken plan pair: its time and its extras for 0 and 1.
+/// A pair that is taken: its time and its extras for 0 and 1.
 pub struct Taken {
-    time: usize,
-    extras: [Vec<Bit>; 2],
+    pub(super) time: usize,
+    pub(super) extras: [Vec<Bit>; 2],
+}
+
+impl Taken {
+    /// One of the two extras gives this bit at that time.
+    pub(super) fn gives(&self, u: usize, j: usize) -> bool {
+        self.time == u && self.extras.iter().flatten().any(|&(given, _)| given == j)
+    }
 }
 
 impl Stages<'_> {
@@ -23,34 +30,33 @@ impl Stages<'_> {
             if !self.worth_trying(u, i) || is_given(&taken, u, i) {
                 continue;
             }
-            let extras = self.extras(u, i);
-            let bits = self.job.circuit.flip_flops.len();
-            let overlaps =
-                extras.iter().flatten().any(|&(j, _)| self.list[u * bits + j] != X || is_given(&taken, u, j));
-            if !overlaps {
-                taken.push(Taken { time: u, extras });
+            if u > 0 {
+                self.plain_values_before(u);
             }
+            taken.extend(self.would_take(&taken, u, i));
         }
         taken
     }
 
     /// The pair names a bit, unknown in the state list, with unknown outputs from u − 1 on.
-    fn worth_trying(&self, u: usize, i: usize) -> bool {
+    pub(super) fn worth_trying(&self, u: usize, i: usize) -> bool {
         let bits = self.job.circuit.flip_flops.len();
         let names_a_bit = u < self.job.time_units && i < bits;
         names_a_bit && self.list[u * bits + i] == X && (u == 0 || self.nout[u - 1] > 0)
     }
 
-    /// The extras of a pair for 0 and 1; stages 3 and 4 have left no mark on a bit still unknown.
-    fn extras(&mut self, u: usize, i: usize) -> [Vec<Bit>; 2] {
-        if u == 0 {
-            return [vec![(i, 0)], vec![(i, 1)]];
-        }
-        self.plain_values_before(u);
-        [self.extra(u, i, 0), self.extra(u, i, 1)]
+    /// A pair worth trying, as it is taken after others, given the plain values of unit u − 1; none if a bit in its
+    /// two extras is specified in the state list or given already.
+    pub(super) fn would_take(&mut self, taken: &[Taken], u: usize, i: usize) -> Option<Taken> {
+        let extras =
+            if u == 0 { [0, 1].map(|value| vec![(i, value)]) } else { [0, 1].map(|value| self.extra(u, i, value)) };
+        let bits = self.job.circuit.flip_flops.len();
+        let overlaps = extras.iter().flatten().any(|&(j, _)| self.list[u * bits + j] != X || is_given(taken, u, j));
+        (!overlaps).then_some(Taken { time: u, extras })
     }
 
-    /// Every (j, β), unknown in the plain state at u, whose pin shows β.
+    /// Every (j, β), unknown in the plain state at u, whose pin shows β; stages 3 and 4 have left no mark on a bit
+    /// still unknown.
     fn extra(&mut self, u: usize, i: usize, value: u8) -> Vec<Bit> {
         let marked = self.marks(u, i, value);
         debug_assert!(!marked);
@@ -139,6 +145,5 @@ enum End {
 
 /// The bit is in an extra of a taken pair at that time.
 fn is_given(taken: &[Taken], u: usize, j: usize) -> bool {
-    let gives = |pair: &Taken| pair.extras.iter().flatten().any(|&(given, _)| given == j);
-    taken.iter().any(|pair| pair.time == u && gives(pair))
+    taken.iter().any(|pair| pair.gives(u, j))
 }

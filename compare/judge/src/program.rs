@@ -1,0 +1,48 @@
+//! What the program prints for the bytes of its four files.
+
+use crate::grade::grade;
+use crate::group::group;
+use crate::refusals::Refusal;
+use std::fmt::Write;
+
+/// In the order in which they are looked at.
+pub const FILES: [&str; 4] = ["circuit.dat", "test.dat", "faults.dat", "plan.dat"];
+
+/// The length of each area, and the most bytes of a file.
+pub const AREA_LEN: usize = 65_536;
+
+pub const K: usize = 6;
+
+/// A missing file is given as empty.
+pub fn print(files: [&[u8]; 4]) -> String {
+    if let Some(position) = files.iter().position(|file| file.len() > AREA_LEN) {
+        return format!("too long {}\n", FILES[position]);
+    }
+    match list(files) {
+        Ok(text) => text,
+        Err((number, position)) => format!("refused {number} {position}\n"),
+    }
+}
+
+/// Per fault: line, pin, value, the record's first eight fields, group.
+fn list([circuit, test, faults, plan]: [&[u8]; 4]) -> Result<String, Refusal> {
+    let mut records = vec![0; AREA_LEN];
+    let count = grade(circuit, test, faults, plan, K, AREA_LEN, &mut records)?;
+    let mut groups = vec![0; AREA_LEN];
+    group(&records[..16 * count], &mut groups)?;
+    let mut text = String::new();
+    for (n, fault) in faults.chunks_exact(4).enumerate() {
+        let record = &records[16 * n..][..14];
+        write!(text, "{} {} {}", number(fault), fault[2], fault[3]).expect("text can be written");
+        write!(text, " {} {}", record[0], record[1]).expect("text can be written");
+        for field in record[2..].chunks_exact(2) {
+            write!(text, " {}", number(field)).expect("text can be written");
+        }
+        writeln!(text, " {}", number(&groups[2 * n..])).expect("text can be written");
+    }
+    Ok(text)
+}
+
+fn number(field: &[u8]) -> u16 {
+    u16::from_le_bytes([field[0], field[1]])
+}
