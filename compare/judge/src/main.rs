@@ -5,6 +5,8 @@ mod bytes;
 mod calls;
 mod choose;
 mod circuit;
+mod compare;
+mod damage;
 mod grade;
 mod group;
 mod hidden;
@@ -12,16 +14,24 @@ mod implication;
 mod jobs;
 #[cfg(feature = "library")]
 mod measure;
+mod mixture;
 mod model_jobs;
+mod odd;
+mod play;
+mod probe;
 mod program;
 mod random;
+mod random_calls;
+mod random_files;
 mod refusals;
 mod s27;
+mod scratch;
 mod search;
 mod simulate;
 mod simulation;
 mod specimens;
 mod stages;
+mod tally;
 mod vectors;
 
 use bytes::{print_record, LentJob};
@@ -38,6 +48,15 @@ fn main() -> ExitCode {
         ["measure"] => measure::measure(),
         #[cfg(feature = "library")]
         ["growth"] => measure::growth(),
+        ["compare-programs", grader, probe, jobs, seed] => compare_programs(grader, probe, jobs, seed),
+        ["play-grader"] => {
+            play::grader();
+            Ok(())
+        }
+        ["play-probe"] => {
+            play::probe();
+            Ok(())
+        }
         ["grade", directory, k] => grade_files(Path::new(directory), k),
         _ => Err(io::Error::other("usage: judge specimens | vectors DIR | grade DIR K | bench-jobs DIR; with the library also measure | growth")),
     };
@@ -62,6 +81,11 @@ fn check_specimens() -> io::Result<()> {
         return Ok(());
     }
     Err(io::Error::other("some verdicts differ"))
+}
+
+fn compare_programs(grader: &str, probe: &str, jobs: &str, seed: &str) -> io::Result<()> {
+    let [jobs, seed] = [jobs, seed].map(|number| number.parse::<u64>().map_err(io::Error::other));
+    compare::compare(grader, probe, jobs? as usize, seed?)
 }
 
 /// Prints the records of the job in a directory, or the refusal; a missing file is empty.

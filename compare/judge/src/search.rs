@@ -50,6 +50,11 @@ pub fn faults_of_all_verdicts(job: &LentJob, count: usize, random: &mut Random) 
         random.shuffle(&mut faults);
         faults.truncate(300);
     }
+    spread_over_verdicts(job, faults, count, random)
+}
+
+/// So many of these faults, repeats among them, each verdict that some of them get being as likely as another.
+pub fn spread_over_verdicts(job: &LentJob, faults: Vec<Place>, count: usize, random: &mut Random) -> LentJob {
     let mut by_verdict: Vec<Vec<Place>> = vec![Vec::new(); 8];
     for (fault, record) in records_of(job, faults) {
         by_verdict[record[0] as usize].push(fault);

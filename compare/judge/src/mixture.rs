@@ -1,0 +1,162 @@
+//! Random jobs of all sizes, most of them small, with faults, plans and shapes weighted so that every verdict is met.
+
+use crate::bytes::{fault_bytes, plan_bytes, LentJob};
+use crate::choose::choices;
+use crate::jobs::{self, every_fault, Shape};
+use crate::random::Random;
+use crate::search::{spread_over_verdicts, with_faults, Place};
+use crate::{hidden, odd};
+
+/// A job that no row refuses when its areas are long enough.
+pub fn job(k: usize, random: &mut Random) -> LentJob {
+    let job = LentJob { k, ..circuit_and_test(random) };
+    let job = some_faults(&job, random);
+    LentJob { plan: some_plan(&job, random), ..job }
+}
+
+/// A circuit and a test, of a size that is seldom large.
+fn circuit_and_test(random: &mut Random) -> LentJob {
+    match random.below(1000) {
+        0..300 => odd::job(time_units(random), random),
+        300..400 => LentJob { plan: vec![], ..hidden::job(random.next()) },
+        400..700 => shaped(small(random), time_units(random), random),
+        700..920 => shaped(holding(random), time_units(random), random),
+        920..985 => shaped(middle(random), time_units(random), random),
+        985..997 => shaped(wide(random), random.between(1, 5), random),
+        997..999 => shaped(small(random), random.between(100, 1024), random),
+        _ => shaped(large(random), random.between(1, 5), random),
+    }
+}
+
+fn shaped(shape: Shape, time_units: usize, random: &mut Random) -> LentJob {
+    let circuit = shape.circuit(random);
+    let test = jobs::test(shape, time_units, random);
+    LentJob::new(circuit, test, vec![], vec![], 0)
+}
+
+fn time_units(random: &mut Random) -> usize {
+    match random.below(100) {
+        0..12 => 1,
+        12..85 => random.between(2, 6),
+        85..97 => random.between(7, 15),
+        _ => random.between(16, 40),
+    }
+}
+
+fn small(random: &mut Random) -> Shape {
+    Shape {
+        inputs: random.between(1, 4),
+        flip_flops: random.between(0, 8),
+        gates: random.between(0, 20),
+        outputs: random.between(1, 4),
+        input_pins: random.pick(&[10, 25, 40]),
+        flip_flop_pins: random.pick(&[20, 35, 50]),
+        parity_gates: random.pick(&[5, 20, 50]),
+        self_feeding: random.pick(&[0, 15, 50]),
+        mixed: random.percent(70),
+        watches: random.pick(&[0, 1, 2, 3, 4]),
+    }
+}
+
+/// Flip-flops many of which hold what they have, all watched: many pairs to take, and many that are as good.
+fn holding(random: &mut Random) -> Shape {
+    Shape {
+        flip_flops: random.between(2, 9),
+        gates: random.between(2, 12),
+        self_feeding: random.pick(&[40, 70, 100]),
+        watches: random.between(1, 5),
+        ..small(random)
+    }
+}
+
+fn middle(random: &mut Random) -> Shape {
+    Shape {
+        inputs: random.between(1, 8),
+        flip_flops: random.between(0, 16),
+        gates: random.between(20, 120),
+        outputs: random.between(1, 8),
+        watches: random.pick(&[0, 3, 6]),
+        ..small(random)
+    }
+}
+
+/// Counts of inputs, flip-flops and outputs up to the limit of 256.
+fn wide(random: &mut Random) -> Shape {
+    let any = |random: &mut Random| random.pick(&[3, 31, 32, 33, 64, 65, 128, 250]);
+    Shape {
+        inputs: any(random),
+        flip_flops: any(random),
+        gates: random.between(0, 300),
+        outputs: any(random),
+        ..middle(random)
+    }
+}
+
+fn large(random: &mut Random) -> Shape {
+    Shape { inputs: random.between(1, 40), gates: random.between(1000, 3900), ..middle(random) }
+}
+
+/// Faults of as many verdicts as there are; or any, every one, the same again and again, or none.
+fn some_faults(job: &LentJob, random: &mut Random) -> LentJob {
+    let mut every = every_fault(&job.circuit);
+    random.shuffle(&mut every);
+    let count = random.between(1, 10);
+    match random.below(100) {
+        0..3 => with_faults(job, &[]),
+        3..8 => with_faults(job, &every[..every.len().min(looked_at(job))]),
+        8..12 => with_faults(job, &vec![every[0]; random.between(2, 80)]),
+        12..25 => with_faults(job, &(0..count).map(|_| random.pick(&every)).collect::<Vec<Place>>()),
+        _ => {
+            every.truncate(looked_at(job));
+            spread_over_verdicts(job, every, count, random)
+        }
+    }
+}
+
+/// The number of faults of a circuit that are graded to find some of every verdict: fewer where the job is larger.
+fn looked_at(job: &LentJob) -> usize {
+    let (flip_flops, time_units) = flip_flops_and_units(job);
+    let size = job.circuit.len() / 12 * (flip_flops + 1) * time_units;
+    (1_000_000 / size).clamp(3, 60)
+}
+
+fn flip_flops_and_units(job: &LentJob) -> (usize, usize) {
+    let lines_of = |kind: u8| job.circuit.chunks_exact(12).filter(|line| line[0] == kind).count();
+    (lines_of(1), job.test.len() / lines_of(0))
+}
+
+/// No pair, pairs that Choose writes for one of the faults among others, or pairs of sense and nonsense.
+fn some_plan(job: &LentJob, random: &mut Random) -> Vec<u8> {
+    let (flip_flops, time_units) = flip_flops_and_units(job);
+    let pairs = match random.below(100) {
+        0..25 => return vec![],
+        25..50 => return [chosen(job, random), jobs::plan(random.below(4), time_units, flip_flops, random)].concat(),
+        50..80 => random.below(2 * job.k + 4),
+        80..99 => random.between(10, 60),
+        _ => random.between(100, 4096),
+    };
+    jobs::plan(pairs, time_units, flip_flops, random)
+}
+
+/// What Choose writes for one of the faults, at times from the last to the first.
+fn chosen(job: &LentJob, random: &mut Random) -> Vec<u8> {
+    let faults: Vec<&[u8]> = job.faults.chunks_exact(4).collect();
+    let Some(&fault) = faults.get(random.below(faults.len().max(1))) else {
+        return vec![];
+    };
+    let choices = choices(&job.circuit, &job.test, fault, job.k, job.work_len, 4 * job.k).expect("the job is accepted");
+    let mut pairs: Vec<(usize, usize)> = choices.iter().map(|choice| (choice.time, choice.index)).collect();
+    if random.percent(30) {
+        pairs.reverse();
+    }
+    plan_bytes(&pairs)
+}
+
+/// The job with one of its faults, or of its circuit's if it has none.
+pub fn with_one_fault(job: &LentJob, random: &mut Random) -> LentJob {
+    let fault = match job.faults.len() / 4 {
+        0 => fault_bytes(&[random.pick(&every_fault(&job.circuit))]),
+        count => job.faults[4 * random.below(count)..][..4].to_vec(),
+    };
+    LentJob { faults: fault, ..job.clone() }
+}

@@ -1,0 +1,22 @@
+//! This grader in the place of the programs that it is compared with: it reads their files and prints what they should.
+
+use crate::bytes::LentJob;
+use crate::probe::{prints, read_call};
+use crate::program::{self, FILES};
+use std::fs;
+
+fn file(name: &str) -> Vec<u8> {
+    fs::read(name).unwrap_or_default()
+}
+
+pub fn grader() {
+    let [circuit, test, faults, plan] = FILES.map(file);
+    print!("{}", program::print([&circuit, &test, &faults, &plan]));
+}
+
+pub fn probe() {
+    let [circuit, test, faults, plan] = FILES.map(file);
+    let job = LentJob { circuit, test, faults, plan, ..LentJob::default() };
+    let call = read_call(&file("call.dat"), job, file("verdicts.dat"));
+    print!("{}", prints(call.as_ref())[0]);
+}
