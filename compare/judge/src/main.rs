@@ -2,6 +2,7 @@
 
 mod bench;
 mod bytes;
+mod call_vectors;
 mod calls;
 mod choose;
 mod circuit;
@@ -12,6 +13,7 @@ mod group;
 mod hidden;
 mod implication;
 mod jobs;
+mod linked;
 #[cfg(feature = "library")]
 mod measure;
 mod mixture;
@@ -43,6 +45,7 @@ fn main() -> ExitCode {
     let done = match words[..] {
         ["specimens"] => check_specimens(),
         ["vectors", directory] => vectors::write(Path::new(directory)),
+        ["call-vectors", directory] => call_vectors::write(Path::new(directory)),
         ["bench-jobs", directory] => bench::write(Path::new(directory)),
         #[cfg(feature = "library")]
         ["measure"] => measure::measure(),

@@ -5,22 +5,60 @@ use crate::choose::choices;
 use crate::jobs::{self, every_fault, Shape};
 use crate::random::Random;
 use crate::search::{spread_over_verdicts, with_faults, Place};
-use crate::{hidden, odd};
+use crate::{hidden, linked, odd};
 
-/// A job that no row refuses when its areas are long enough.
+/// A job that no row refuses when its areas are long enough. Three in four are tried again, a few times, if stages 1
+/// and 2 end all their faults.
 pub fn job(k: usize, random: &mut Random) -> LentJob {
-    let job = LentJob { k, ..circuit_and_test(random) };
-    let job = some_faults(&job, random);
+    let tries = random.pick(&[0, 4, 4, 4]);
+    let any = |random: &mut Random| some_faults(&LentJob { k, ..circuit_and_test(random) }, random);
+    let mut job = any(random);
+    for _ in 0..tries {
+        if !faults_with_verdict(&job, &[2, 3, 4, 6, 7]).is_empty() {
+            break;
+        }
+        job = any(random);
+    }
     LentJob { plan: some_plan(&job, random), ..job }
+}
+
+/// A job of one fault, for which Choose mostly has pairs to write; in many of them one bit tells others.
+pub fn job_of_one_fault(k: usize, random: &mut Random) -> LentJob {
+    let any = |random: &mut Random| match random.percent(40) {
+        true => some_faults(&LentJob { k, ..linked::job(time_units(random), random) }, random),
+        false => job(k, random),
+    };
+    let mut job = any(random);
+    let mut reaching = faults_with_verdict(&job, &[3, 4, 6, 7]);
+    for _ in 0..random.pick(&[0, 8, 8, 8]) {
+        if !reaching.is_empty() {
+            break;
+        }
+        job = any(random);
+        reaching = faults_with_verdict(&job, &[3, 4, 6, 7]);
+    }
+    let fault = if reaching.is_empty() { random.pick(&every_fault(&job.circuit)) } else { random.pick(&reaching) };
+    LentJob { faults: fault_bytes(&[fault]), ..job }
+}
+
+/// Those of the job's faults that get one of these verdicts.
+pub fn faults_with_verdict(job: &LentJob, verdicts: &[u16]) -> Vec<Place> {
+    let records = job.records().expect("the job is accepted");
+    let faults = job
+        .faults
+        .chunks_exact(4)
+        .map(|fault| (fault[0] as usize + 256 * fault[1] as usize, fault[2] as usize, fault[3]));
+    faults.zip(records).filter(|(_, record)| verdicts.contains(&record[0])).map(|(fault, _)| fault).collect()
 }
 
 /// A circuit and a test, of a size that is seldom large.
 fn circuit_and_test(random: &mut Random) -> LentJob {
     match random.below(1000) {
-        0..300 => odd::job(time_units(random), random),
-        300..400 => LentJob { plan: vec![], ..hidden::job(random.next()) },
-        400..700 => shaped(small(random), time_units(random), random),
-        700..920 => shaped(holding(random), time_units(random), random),
+        0..250 => odd::job(time_units(random), random),
+        250..380 => LentJob { plan: vec![], ..hidden::job(random.next()) },
+        380..600 => linked::job(time_units(random), random),
+        600..770 => shaped(small(random), time_units(random), random),
+        770..920 => shaped(holding(random), time_units(random), random),
         920..985 => shaped(middle(random), time_units(random), random),
         985..997 => shaped(wide(random), random.between(1, 5), random),
         997..999 => shaped(small(random), random.between(100, 1024), random),
@@ -150,13 +188,4 @@ fn chosen(job: &LentJob, random: &mut Random) -> Vec<u8> {
         pairs.reverse();
     }
     plan_bytes(&pairs)
-}
-
-/// The job with one of its faults, or of its circuit's if it has none.
-pub fn with_one_fault(job: &LentJob, random: &mut Random) -> LentJob {
-    let fault = match job.faults.len() / 4 {
-        0 => fault_bytes(&[random.pick(&every_fault(&job.circuit))]),
-        count => job.faults[4 * random.below(count)..][..4].to_vec(),
-    };
-    LentJob { faults: fault, ..job.clone() }
 }

@@ -14,10 +14,11 @@ pub fn call(random: &mut Random) -> Call {
     let kinds = [Kind::Simulate, Kind::Grade, Kind::Grade, Kind::Choose, Kind::Choose, Kind::Choose, Kind::Group];
     let kind = random.pick(&kinds);
     let k = random.below(13);
-    let mut call = Call { kind, job: mixture::job(k, random), verdicts: vec![] };
+    let of_one_fault = matches!(kind, Kind::Simulate | Kind::Choose) && random.percent(97);
+    let job = if of_one_fault { mixture::job_of_one_fault(k, random) } else { mixture::job(k, random) };
+    let mut call = Call { kind, job, verdicts: vec![] };
     match kind {
         Kind::Simulate if random.percent(40) => call.job.faults.clear(),
-        Kind::Simulate | Kind::Choose if !random.percent(4) => call.job = mixture::with_one_fault(&call.job, random),
         Kind::Group => call.verdicts = verdicts(&call.job, random),
         _ => (),
     }

@@ -9,7 +9,9 @@ pub struct Tally {
     damaged: usize,
     too_long: usize,
     empty_prints: usize,
+    /// By verdict: records, and jobs with such a record.
     verdicts: [usize; 8],
+    jobs_with_verdict: [usize; 8],
     refusals: [usize; 16],
     bad_calls: usize,
     /// By call: those done, then refusals by number.
@@ -27,6 +29,7 @@ impl Tally {
         self.jobs += 1;
         self.damaged += is_damaged as usize;
         self.empty_prints += print.is_empty() as usize;
+        let before = self.verdicts;
         for line in print.lines() {
             let words: Vec<&str> = line.split(' ').collect();
             let number = |position: usize| words[position].parse::<usize>().expect("a number");
@@ -35,6 +38,9 @@ impl Tally {
                 "refused" => self.refusals[number(1)] += 1,
                 _ => self.verdicts[number(3)] += 1,
             }
+        }
+        for verdict in 1..8 {
+            self.jobs_with_verdict[verdict] += (self.verdicts[verdict] > before[verdict]) as usize;
         }
     }
 
@@ -69,6 +75,7 @@ impl Tally {
             self.jobs, self.damaged, self.too_long, self.empty_prints
         );
         println!("records with verdicts 1 to 7: {:?}", &self.verdicts[1..]);
+        println!("jobs with verdicts 1 to 7: {:?}", &self.jobs_with_verdict[1..]);
         println!("refusals 1 to 14 of the program: {:?}", &self.refusals[1..15]);
         for kind in Kind::ALL {
             let refusals = &self.call_refusals[kind as usize][1..];
