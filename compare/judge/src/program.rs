@@ -46,3 +46,26 @@ fn list([circuit, test, faults, plan]: [&[u8]; 4]) -> Result<String, Refusal> {
 fn number(field: &[u8]) -> u16 {
     u16::from_le_bytes([field[0], field[1]])
 }
+
+#[cfg(test)]
+mod tests {
+    use super::*;
+
+    #[test]
+    fn the_first_file_that_is_too_long_is_named() {
+        let (longest, too_long) = (vec![0; AREA_LEN], vec![0; AREA_LEN + 1]);
+        assert_eq!(print([&longest, &[], &too_long, &too_long]), "too long faults.dat\n");
+        assert_eq!(print([&too_long, &too_long, &[], &[]]), "too long circuit.dat\n");
+        assert_eq!(print([&longest, &longest, &longest, &longest]), "refused 1 0\n");
+    }
+
+    #[test]
+    fn missing_files_are_empty() {
+        let circuit = [0, 0, 1, 0, 0, 0, 0, 0, 0, 0, 0, 0];
+        assert_eq!(print([&[], &[], &[], &[]]), "refused 1 0\n");
+        assert_eq!(print([&circuit, &[], &[], &[]]), "refused 7 0\n");
+        assert_eq!(print([&circuit, &[1], &[], &[]]), "");
+        assert_eq!(print([&circuit, &[1], &[0, 0, 0, 0], &[]]), "0 0 0 1 0 0 0 0 0 0 0 0\n");
+        assert_eq!(print([&circuit, &[1], &[0, 0, 0, 0].repeat(4097), &[]]), "refused 14 0\n");
+    }
+}
