@@ -1,8 +1,8 @@
 //! The call Choose: refuses a job or writes the plan records chosen for its one fault.
 
-use crate::bytes::plan_bytes;
-use crate::refusals::{read_for_choose, Refusal};
-use crate::stages::{Choice, Stages};
+use crate::bytes::{plan_bytes, LentJob};
+use crate::refusals::{read_for_choose, Job, Refusal};
+use crate::stages::Stages;
 
 /// The number of records written, or number and position of a refusal.
 pub fn choose(
@@ -13,29 +13,32 @@ pub fn choose(
     work_len: usize,
     result: &mut [u8],
 ) -> Result<usize, Refusal> {
-    let choices = choices(circuit, test, faults, k, work_len, result.len())?;
-    let pairs: Vec<(usize, usize)> = choices.iter().map(|choice| (choice.time, choice.index)).collect();
+    let job = read_for_choose(circuit, test, faults, k, work_len, result.len())?;
+    let pairs = Stages::new(&job).choices(job.faults[0]);
     result[..4 * pairs.len()].copy_from_slice(&plan_bytes(&pairs));
     Ok(pairs.len())
 }
 
-/// The pairs in the order chosen.
-pub fn choices(
-    circuit: &[u8],
-    test: &[u8],
-    faults: &[u8],
-    k: usize,
-    work_len: usize,
-    result_len: usize,
-) -> Result<Vec<Choice>, Refusal> {
-    let job = read_for_choose(circuit, test, faults, k, work_len, result_len)?;
-    Ok(Stages::new(&job).choices(job.faults[0]))
+/// The pairs that Choose writes for the job's one fault; the job is accepted.
+pub fn choices(job: &LentJob) -> Vec<(usize, usize)> {
+    let read = read_with_room(job);
+    Stages::new(&read).choices(read.faults[0])
+}
+
+/// For each place in the rank of pairs the number that it decides; the job is accepted.
+pub fn decided(job: &LentJob) -> [usize; 6] {
+    let read = read_with_room(job);
+    Stages::new(&read).decided(read.faults[0])
+}
+
+fn read_with_room(job: &LentJob) -> Job<'_> {
+    let LentJob { circuit, test, faults, k, work_len, .. } = job;
+    read_for_choose(circuit, test, faults, *k, *work_len, 4 * k).expect("the job is accepted")
 }
 
 #[cfg(test)]
 mod tests {
     use super::*;
-    use crate::bytes::LentJob;
     use crate::mixture::job_of_one_fault;
     use crate::random::Random;
 
@@ -66,35 +69,36 @@ mod tests {
     }
 
     /// Grade, which does not rank, says which pairs may come next: one of them with the largest Nout does, until
-    /// there are k or none is left.
+    /// there are k or none is left. The number of pairs.
+    fn check(job: &LentJob) -> usize {
+        let lines_of = |kind: u8| job.circuit.chunks_exact(12).filter(|line| line[0] == kind).count();
+        let (units, flip_flops) = (job.test.len() / lines_of(0), lines_of(1));
+        let written = choices(job);
+        if [1, 2, 5].contains(&job.records().expect("the job is accepted")[0][0]) {
+            assert!(written.is_empty());
+            return 0;
+        }
+        let nout = nout(job, units);
+        for (n, pair) in written.iter().enumerate() {
+            let next = taken_next(job, &written[..n], units, flip_flops);
+            assert!(next.contains(pair));
+            assert!(next.iter().all(|other| nout[other.0] <= nout[pair.0]));
+        }
+        assert!(written.len() == job.k || taken_next(job, &written, units, flip_flops).is_empty());
+        written.len()
+    }
+
     #[test]
     fn every_pair_is_the_best_that_grade_takes_next() {
         let mut random = Random(1);
-        let mut pairs_seen = 0;
+        let mut pairs = 0;
         for _ in 0..300 {
             let k = random.below(7);
             let job = LentJob { result_len: 16, ..job_of_one_fault(k, &mut random) };
-            let lines_of = |kind: u8| job.circuit.chunks_exact(12).filter(|line| line[0] == kind).count();
-            let (units, flip_flops) = (job.test.len() / lines_of(0), lines_of(1));
-            let verdict = job.records().expect("the job is accepted")[0][0];
-            if job.circuit.len() > 20 * 12 || units > 8 {
-                continue;
+            if job.circuit.len() <= 20 * 12 && job.test.len() <= 30 {
+                pairs += check(&job);
             }
-            let choices = choices(&job.circuit, &job.test, &job.faults, k, job.work_len, 4 * k).expect("accepted");
-            let written: Vec<(usize, usize)> = choices.iter().map(|choice| (choice.time, choice.index)).collect();
-            if [1, 2, 5].contains(&verdict) {
-                assert!(written.is_empty());
-                continue;
-            }
-            let nout = nout(&job, units);
-            for (n, pair) in written.iter().enumerate() {
-                let next = taken_next(&job, &written[..n], units, flip_flops);
-                assert!(next.contains(pair));
-                assert!(next.iter().all(|other| nout[other.0] <= nout[pair.0]));
-            }
-            assert!(written.len() == k || taken_next(&job, &written, units, flip_flops).is_empty());
-            pairs_seen += written.len();
         }
-        assert!(pairs_seen > 300);
+        assert!(pairs > 300);
     }
 }

@@ -37,10 +37,10 @@ fn add_gate(builder: &mut Builder, random: &mut Random) {
     builder.add(kind, 0, &pins);
 }
 
-/// The mask is 1 from some unit on, or any.
+/// The mask is 1 from a late unit on, or any.
 fn test(time_units: usize, random: &mut Random) -> Vec<u8> {
-    let on_from = random.below(time_units);
-    let is_late = random.percent(60);
+    let on_from = random.between(time_units / 2, time_units - 1);
+    let is_late = random.percent(70);
     let unit = |u: usize| {
         let mask = if is_late { u >= on_from } else { random.percent(80) };
         [mask as u8, random.percent(50) as u8]

@@ -1,4 +1,5 @@
-//! A grader of stuck faults written straight from the scope, its test vectors, and jobs for measuring speed.
+//! A grader of stuck faults written straight from the scope, its test vectors, the comparison of the programs with it,
+//! and jobs for measuring speed.
 
 mod bench;
 mod bytes;
@@ -39,6 +40,9 @@ mod vectors;
 use bytes::{print_record, LentJob};
 use std::{env, fs, io, path::Path, process::ExitCode};
 
+const USAGE: &str = "usage: judge specimens | vectors DIR | call-vectors DIR | grade DIR K | bench-jobs DIR \
+    | compare-programs GRADER PROBE JOBS SEED | play-grader | play-probe; with the library also measure | growth";
+
 fn main() -> ExitCode {
     let arguments: Vec<String> = env::args().skip(1).collect();
     let words: Vec<&str> = arguments.iter().map(String::as_str).collect();
@@ -52,16 +56,10 @@ fn main() -> ExitCode {
         #[cfg(feature = "library")]
         ["growth"] => measure::growth(),
         ["compare-programs", grader, probe, jobs, seed] => compare_programs(grader, probe, jobs, seed),
-        ["play-grader"] => {
-            play::grader();
-            Ok(())
-        }
-        ["play-probe"] => {
-            play::probe();
-            Ok(())
-        }
+        ["play-grader"] => play::grader(),
+        ["play-probe"] => play::probe(),
         ["grade", directory, k] => grade_files(Path::new(directory), k),
-        _ => Err(io::Error::other("usage: judge specimens | vectors DIR | grade DIR K | bench-jobs DIR; with the library also measure | growth")),
+        _ => Err(io::Error::other(USAGE)),
     };
     match done {
         Ok(()) => ExitCode::SUCCESS,

@@ -179,11 +179,10 @@ fn some_plan(job: &LentJob, random: &mut Random) -> Vec<u8> {
 /// What Choose writes for one of the faults, at times from the last to the first.
 fn chosen(job: &LentJob, random: &mut Random) -> Vec<u8> {
     let faults: Vec<&[u8]> = job.faults.chunks_exact(4).collect();
-    let Some(&fault) = faults.get(random.below(faults.len().max(1))) else {
+    let Some(fault) = faults.get(random.below(faults.len().max(1))) else {
         return vec![];
     };
-    let choices = choices(&job.circuit, &job.test, fault, job.k, job.work_len, 4 * job.k).expect("the job is accepted");
-    let mut pairs: Vec<(usize, usize)> = choices.iter().map(|choice| (choice.time, choice.index)).collect();
+    let mut pairs = choices(&LentJob { faults: fault.to_vec(), ..job.clone() });
     if random.percent(30) {
         pairs.reverse();
     }

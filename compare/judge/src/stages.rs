@@ -4,8 +4,6 @@
 mod choices;
 mod sequences;
 
-pub use choices::Choice;
-
 use crate::circuit::Fault;
 use crate::implication::imply;
 use crate::refusals::Job;

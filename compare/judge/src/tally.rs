@@ -1,7 +1,7 @@
 //! What a comparison has met: verdicts, refusals, and how the pairs of Choose came about.
 
 use crate::calls::{Call, Kind};
-use crate::choose::choices;
+use crate::choose::decided;
 
 #[derive(Default)]
 pub struct Tally {
@@ -19,8 +19,8 @@ pub struct Tally {
     call_refusals: [[usize; 16]; 4],
     /// Calls of Choose that wrote none, fewer than k, and k pairs.
     pairs: [usize; 3],
-    /// Pairs by the place in the rank that decided, then those without another.
-    decided: [usize; 7],
+    /// Pairs that each place in the rank decides.
+    decided: [usize; 6],
 }
 
 impl Tally {
@@ -39,8 +39,8 @@ impl Tally {
                 _ => self.verdicts[number(3)] += 1,
             }
         }
-        for verdict in 1..8 {
-            self.jobs_with_verdict[verdict] += (self.verdicts[verdict] > before[verdict]) as usize;
+        for (jobs, (before, after)) in self.jobs_with_verdict.iter_mut().zip(before.iter().zip(&self.verdicts)) {
+            *jobs += (after > before) as usize;
         }
     }
 
@@ -51,22 +51,21 @@ impl Tally {
             return;
         };
         match call.answer().done {
-            Ok(_) => self.done[call.kind as usize] += 1,
+            Ok(count) => {
+                self.done[call.kind as usize] += 1;
+                if call.kind == Kind::Choose {
+                    self.count_pairs(call, count);
+                }
+            }
             Err((number, _)) => self.call_refusals[call.kind as usize][number as usize] += 1,
-        }
-        if call.kind == Kind::Choose {
-            self.count_choices(call);
         }
     }
 
-    fn count_choices(&mut self, call: &Call) {
-        let job = &call.job;
-        let choices = choices(&job.circuit, &job.test, &job.faults, job.k, job.work_len, job.result_len);
-        let Ok(choices) = choices else {
-            return;
-        };
-        self.pairs[if choices.is_empty() { 0 } else { 1 + (choices.len() == job.k) as usize }] += 1;
-        choices.iter().for_each(|choice| self.decided[choice.decided_at.unwrap_or(6)] += 1);
+    fn count_pairs(&mut self, call: &Call, count: usize) {
+        self.pairs[if count == 0 { 0 } else { 1 + (count == call.job.k) as usize }] += 1;
+        for (total, here) in self.decided.iter_mut().zip(decided(&call.job)) {
+            *total += here;
+        }
     }
 
     pub fn print(&self) {
@@ -83,6 +82,6 @@ impl Tally {
         }
         println!("bad calls: {}", self.bad_calls);
         println!("Choose wrote no pair, fewer than k, k: {:?}", self.pairs);
-        println!("pairs decided by Nout, Nsv, smaller size, larger size, u, i, alone: {:?}", self.decided);
+        println!("pairs decided by Nout, Nsv, smaller size, larger size, u, i: {:?}", self.decided);
     }
 }

@@ -3,44 +3,41 @@
 use super::{is_small, small_call, with_longer_areas};
 use crate::bytes::{fault_bytes, LentJob};
 use crate::calls::{Call, Kind};
-use crate::choose::choices;
+use crate::choose::{choices, decided};
 use crate::mixture;
 use crate::random::Random;
-use crate::stages::Choice;
 
 pub fn calls(random: &mut Random) -> Vec<Call> {
     let mut calls = Vec::new();
-    // Pairs that each place of the rank decides.
+    // Pairs that each place in the rank decides.
     for place in 0..6 {
-        let decided = |choices: &[Choice]| choices.iter().any(|choice| choice.decided_at == Some(place));
-        calls.extend((0..7).map(|_| wanted_choose(random, |_, choices| decided(choices))));
+        calls.extend((0..7).map(|_| wanted(random, |job| decided(job)[place] > 0)));
     }
-    // As many as k, with others left over; fewer than k; none, for each verdict with none, and with k = 0.
-    let left_over = |choices: &[Choice]| choices.last().is_some_and(|last| last.decided_at.is_some());
-    calls.extend((0..5).map(|_| wanted_choose(random, |k, choices| choices.len() == k && left_over(choices))));
-    calls.extend((0..5).map(|_| wanted_choose(random, |k, choices| !choices.is_empty() && choices.len() < k)));
-    calls.extend((0..3).map(|_| wanted_choose(random, |k, _| k == 0)));
+    // As many pairs as k with others left over, fewer than k, and k = 0.
+    let with_k = |job: &LentJob, k: usize| choices(&LentJob { k, ..job.clone() }).len();
+    calls.extend((0..5).map(|_| wanted(random, |job| job.k < 12 && with_k(job, job.k + 1) > job.k)));
+    calls.extend((0..5).map(|_| wanted(random, |job| (1..job.k).contains(&with_k(job, job.k)))));
+    calls.extend((0..3).map(|_| wanted(random, |job| job.k == 0)));
+    // The verdicts for which no pair is written.
     for verdict in [1, 2, 5] {
-        calls.extend((0..3).map(|_| choose_of_verdict(verdict, random)));
+        calls.extend((0..3).map(|_| of_verdict(verdict, random)));
     }
     calls.into_iter().flat_map(followed_by_grade).collect()
 }
 
-/// A small call of Choose whose pairs are as wanted at its k.
-fn wanted_choose(random: &mut Random, wanted: impl Fn(usize, &[Choice]) -> bool) -> Call {
+/// A small call whose job is as wanted.
+fn wanted(random: &mut Random, is_wanted: impl Fn(&LentJob) -> bool) -> Call {
     loop {
         let mut call = small_call(Kind::Choose, random);
         call.job.plan = vec![255; random.below(4)];
-        let job = &call.job;
-        let choices = choices(&job.circuit, &job.test, &job.faults, job.k, job.work_len, job.result_len);
-        if wanted(job.k, &choices.expect("the job is accepted")) {
+        if is_wanted(&call.job) {
             return with_longer_areas(call, random);
         }
     }
 }
 
-/// A small call of Choose whose fault gets this verdict.
-fn choose_of_verdict(verdict: u16, random: &mut Random) -> Call {
+/// A small call whose fault gets this verdict.
+fn of_verdict(verdict: u16, random: &mut Random) -> Call {
     loop {
         let k = random.between(1, 12);
         let job = mixture::job(k, random);

@@ -15,18 +15,26 @@ struct Candidate {
     rank: Rank,
 }
 
-/// A pair that Choose writes.
-#[derive(Clone, Copy, PartialEq, Debug)]
-pub struct Choice {
-    pub time: usize,
-    pub index: usize,
-    /// The place in the rank at which the pair is better than the next best, if there is another.
-    pub decided_at: Option<usize>,
-}
-
 impl Stages<'_> {
-    /// At most k pairs, those chosen counting as taken; none for verdicts 1, 2 and 5.
-    pub fn choices(&mut self, fault: Fault) -> Vec<Choice> {
+    /// Time and flip-flop index of at most k pairs, those chosen counting as taken; none for verdicts 1, 2 and 5.
+    pub fn choices(&mut self, fault: Fault) -> Vec<(usize, usize)> {
+        self.watched_choices(fault, |_, _| ())
+    }
+
+    /// For each place in the rank the number of pairs chosen that would not be the best alone without it.
+    pub fn decided(&mut self, fault: Fault) -> [usize; 6] {
+        let mut decided = [0; 6];
+        self.watched_choices(fault, |best, others| {
+            for (place, count) in decided.iter_mut().enumerate() {
+                let is_as_good = |other: &Candidate| without(place, other.rank) >= without(place, best.rank);
+                *count += others.iter().any(is_as_good) as usize;
+            }
+        });
+        decided
+    }
+
+    /// The choices, each seen as it is made with the others that might be.
+    fn watched_choices(&mut self, fault: Fault, mut see: impl FnMut(&Candidate, &[Candidate])) -> Vec<(usize, usize)> {
         let mut choices = Vec::new();
         let Some(implied) = self.implied(fault) else {
             return choices;
@@ -37,10 +45,9 @@ impl Stages<'_> {
         let mut candidates = self.candidates();
         while choices.len() < self.job.k && !candidates.is_empty() {
             let best = candidates.swap_remove(position_of_best(&candidates));
-            let next_best = candidates.iter().map(|candidate| candidate.rank).max();
-            let decided_at = next_best.and_then(|next| (0..6).find(|&place| best.rank[place] != next[place]));
-            choices.push(Choice { time: best.taken.time, index: best.index, decided_at });
+            see(&best, &candidates);
             candidates.retain(|candidate| !overlap(&candidate.taken, &best.taken));
+            choices.push((best.taken.time, best.index));
         }
         choices
     }
@@ -75,6 +82,12 @@ impl Stages<'_> {
 
 fn position_of_best(candidates: &[Candidate]) -> usize {
     (0..candidates.len()).max_by_key(|&position| candidates[position].rank).expect("some candidate")
+}
+
+/// The rank with this place left out.
+fn without(place: usize, mut rank: Rank) -> Rank {
+    rank[place] = 0;
+    rank
 }
 
 /// Some bit in the extras of one is given by the other at the same time.
