@@ -156,3 +156,46 @@ pub fn fill_result_area(job: &mut LentJob, random: &mut Random) {
     let faults = random.pick(&[4096, 4097, 4098, 5000, 16_384]);
     job.faults = job.faults.iter().copied().cycle().take(4 * faults).collect();
 }
+
+#[cfg(test)]
+mod tests {
+    use super::*;
+    use crate::mixture;
+    use crate::program;
+    use std::collections::HashSet;
+
+    #[test]
+    fn every_row_is_met_at_several_places() {
+        let mut random = Random(1);
+        for row in 1..=14 {
+            let mut positions = HashSet::new();
+            let mut refused = 0;
+            for _ in 0..100 {
+                let mut job = mixture::job(6, &mut random);
+                break_row(&mut job, row, &mut random);
+                if let Some((_, position)) = job.records().err().filter(|&(number, _)| number as usize == row) {
+                    refused += 1;
+                    positions.insert(position);
+                }
+            }
+            let has_positions = [2, 3, 4, 5, 8, 10].contains(&row);
+            assert!(refused > 40 && (!has_positions || positions.len() > 4), "row {row}: {refused}, {positions:?}");
+        }
+    }
+
+    #[test]
+    fn areas_are_filled_and_more() {
+        let mut random = Random(2);
+        for (fill, refusal) in
+            [(fill_work_area as fn(&mut _, &mut _), "refused 13 0\n"), (fill_result_area, "refused 14 0\n")]
+        {
+            let mut refused = 0;
+            for _ in 0..40 {
+                let mut job = mixture::job(6, &mut random);
+                fill(&mut job, &mut random);
+                refused += (program::print([&job.circuit, &job.test, &job.faults, &job.plan]) == refusal) as usize;
+            }
+            assert!((20..40).contains(&refused), "{refused} times {refusal}");
+        }
+    }
+}

@@ -205,3 +205,26 @@ pub fn job(shape: Shape, time_units: usize, faults_wanted: usize, k: usize, seed
     let plan = plan(pairs, time_units, shape.flip_flops, &mut random);
     LentJob::new(circuit, test, faults, plan, k)
 }
+
+#[cfg(test)]
+mod tests {
+    use super::*;
+
+    #[test]
+    fn a_job_of_any_shape_is_made_and_accepted() {
+        let mut random = Random(1);
+        for _ in 0..500 {
+            let shape = Shape {
+                inputs: random.between(1, 40),
+                flip_flops: random.below(3),
+                gates: random.below(4),
+                outputs: random.between(1, 60),
+                watches: random.below(3),
+                mixed: random.percent(50),
+                ..Shape::SMALL
+            };
+            let job = job(shape, random.between(1, 3), 2, 6, random.next());
+            assert_eq!(job.records().map(|records| records.len()), Ok(2));
+        }
+    }
+}

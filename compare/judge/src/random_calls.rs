@@ -64,7 +64,7 @@ fn verdicts(job: &LentJob, random: &mut Random) -> Vec<u8> {
     if random.percent(30) {
         return Call { kind: Kind::Grade, job: job.clone(), verdicts: vec![] }.answer().result;
     }
-    let records = random.pick(&[0, 1, 2, 5, 17, 60, 60, 300]);
+    let records = if random.percent(2) { 4096 } else { random.pick(&[0, 1, 2, 5, 17, 60, 60, 300]) };
     let mut bytes: Vec<u8> = Vec::new();
     for _ in 0..records {
         let mut record = [0; 16].map(|_: u8| random.below(256) as u8);
