@@ -1,4 +1,4 @@
--- What stage 1's places say of a verdict, and what a batch asks for.
+-- The fault-free responses, what stage 1's places say of a verdict, and what a batch asks for.
 use mathlib.Core.Path.{_≡_, sym, _∙_}
 use mathlib.Core.Bool.{true, false}
 use mathlib.Core.List.{List, _++_}
@@ -7,10 +7,12 @@ use Prim.Native.Nat.{ℕ, _+_, _*_, _-_, _≤_}
 use native.Mathlib.Omega.{arith}
 use borrow.Author.Tests.{lt-ltb, ltb-false}
 use lib.ListN.{getD, length, take, drop}
+use Rattle.lists.specs.Scan.{gather}
 use Rattle.lists.specs.Field.{overwritten, Rows}
 use Rattle.model.specs.Inputs.{O, L, Fault, faultCount, faultAt}
 use Rattle.model.specs.Accepted.{ValidInputs}
-use Rattle.model.specs.Simulation.{powerUp, freeOutputs}
+use Rattle.model.specs.Simulation.{noFault, powerUp, outputsAt, freeOutputs}
+use Rattle.fault.proofs.Tables.{response-rows}
 use Rattle.model.specs.Expansion.{nout}
 use Rattle.model.specs.Grade.{Verdict, recordBytes, placed, atPair, stage1, beforeStage5, grade}
 use Rattle.lanes.specs.Lane.{bit, Lane}
@@ -20,6 +22,11 @@ use Rattle.plain.specs.Places.{Places}
 use Rattle.faults.specs.Given.{Batch, laneFault, Given}
 use Rattle.record.proofs.Laws.{record-behind}
 use Rattle.batch.specs.Batch.{FirstOf, Found, RecordsTo}
+
+-- the run of no fault
+pub free-rows : (c t table old : List ℕ) → table ≡ overwritten (gather (λ u. outputsAt c t noFault (powerUp c) u) (L c t)) old → Rows (O c) (L c t) table (λ u. freeOutputs c t u)
+unfolding freeOutputs
+free-rows c t table old e = response-rows c t noFault table old e
 
 module _ (c t : List ℕ) (f : Fault) (firsts : Firsts) (lane : ℕ) (times lines : List ℕ) (known : FirstOf c t f firsts lane times lines) where
   -- the lane has a place

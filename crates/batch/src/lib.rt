@@ -2,7 +2,7 @@
 // and goes through the other stages alone. A fault's record is written before the next one is looked at.
 ghost use Prim.Native.Nat.{_+_, _*_, _<_, _≤_};
 ghost use lib.ListN.{length};
-ghost use Rattle.model.specs.Inputs.{faultAt, faultCount};
+ghost use Rattle.model.specs.Inputs.{O, L, faultAt, faultCount};
 ghost use Rattle.model.specs.Accepted.{ValidFault, ValidInputs};
 ghost use Rattle.faults.specs.Given.{Blank};
 ghost use Rattle.stages.specs.Stages.{Tabled, Gradable, Standing};
@@ -23,7 +23,46 @@ use stages::Trials;
 use stages::Words;
 
 // The first opposing places of the lanes: their units, or their lines.
-type Places = [usize; 64];
+pub type Places = [usize; 64];
+
+// The fault-free responses, at the beginning of the work area.
+pub fn write_free(
+    c: &[u8],
+    job: Job,
+    t: &[u8],
+    pins: &[u16],
+    flops: &[usize],
+    outs: &[usize],
+    hits: &Hits,
+    masks: &Masks,
+    feed: &mut Feed,
+    words: &mut Words,
+    state: &mut State,
+    states: &mut Table,
+    work: &mut [u8],
+)
+    requires { ⌜ (Tabled (now c) (now t) job (now pins) (now flops) (now outs)) × (Blank (now hits) (now masks)) × (L (now c) (now t) * O (now c) + L (now c) (now t) * O (now c) ≤ length (now work)) ⌝ }
+    ensures { λ _. ⌜ Standing (now (c .entry)) (now (t .entry)) (now (work .exit)) ⌝ }
+{
+    run::power_up(c, job.flops, state);
+    run::write_run(
+        c,
+        job,
+        t,
+        0,
+        pins,
+        flops,
+        outs,
+        hits,
+        masks,
+        feed,
+        words,
+        state,
+        0,
+        work,
+        states,
+    );
+}
 
 // Fault j of the list, which stage 1 leaves open: given to all lanes for stages 2 to 6, and taken back.
 fn settle(
@@ -233,7 +272,7 @@ fn write_batch(
 }
 
 // Stage 1 of a batch, one fault to a lane: the lanes that have a place, whose unit and line are noted, and those that have something left to show.
-fn find_places(
+pub fn find_places(
     c: &[u8],
     job: Job,
     t: &[u8],

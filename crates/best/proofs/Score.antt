@@ -10,6 +10,7 @@ use native.Mathlib.Decide.{decLe}
 use native.Mathlib.Nat.{suc-mul, mul-le-mul-right}
 use borrow.Author.Tests.{ltb-true, ltb-false, lt-ltb, le-ltb}
 use Rattle.lists.proofs.Tests.{by-test}
+use Rattle.model.proofs.Best.{larger-less, larger-same}
 use Rattle.model.specs.Inputs.{F, Fault}
 use Rattle.model.specs.Expansion.{nsv, nout}
 use Rattle.model.specs.Choose.{larger, smaller, smallerExtra, largerExtra, better}
@@ -25,14 +26,6 @@ same-order a b x y f g = by-test (ltb a b)
       | yes h ↦ absurd (let l : a < b = g h in let m : b ≤ a = ltb-false a b e in let z : ⊥ = omega arith in z)
       | no h ↦ (let m : y ≤ x = omega arith in m)
     ])))
-
-larger-less : (a b : ℕ) (rest : Bool) → a < b → larger a b rest ≡ false
-unfolding larger
-larger-less a b rest h = rw (le-ltb b a (omega arith), lt-ltb a b h)
-
-larger-same : (a b : ℕ) (rest : Bool) → a ≡ b → larger a b rest ≡ rest
-unfolding larger
-larger-same a b rest h = rw (le-ltb b a (omega arith), le-ltb a b (omega arith))
 
 -- a number in front of one below B
 digit : (B a b x y : ℕ) → x < B → y < B → larger a b (ltb y x) ≡ ltb (b * B + y) (a * B + x)

@@ -1,4 +1,4 @@
--- The fault-free responses, the room for them, and the records of a whole list.
+-- Room for the responses, and the records of a whole list.
 use mathlib.Core.Path.{_≡_, sym}
 use mathlib.Core.List.{List}
 use Prim.Native.Nat.{ℕ, _+_, _*_, _/_, _≤_}
@@ -6,19 +6,17 @@ use native.Mathlib.Omega.{arith}
 use native.Mathlib.Nat.{mul-le-mul-left, mul-add}
 use lib.ListN.{length}
 use Rattle.lists.specs.Scan.{gather}
-use Rattle.lists.specs.Field.{overwritten, Rows}
+use Rattle.lists.specs.Field.{overwritten}
 use Rattle.lists.proofs.Field.{overwritten-none}
 use Rattle.model.specs.Inputs.{F, O, L, faultCount}
 use Rattle.model.specs.Refusals.{workBytes}
 use Rattle.model.specs.Accepted.{GradeReady}
-use Rattle.model.specs.Simulation.{noFault, powerUp, outputsAt, freeOutputs}
 use Rattle.model.specs.Grade.{gradeBytes, gradeArea}
 use Rattle.model.specs.Promises.{Demand3}
 use Rattle.model.proofs.Theorems.{demand-three}
 use Rattle.circuit.specs.Table.{Tables}
 use Rattle.job.specs.Job.{JobOf}
 use Rattle.job.specs.declared.Job.{Job}
-use Rattle.fault.proofs.Tables.{response-rows}
 use Rattle.stages.specs.Stages.{Gradable}
 use Rattle.batch.specs.Batch.{RecordsTo}
 
@@ -28,11 +26,6 @@ unfolding workBytes
 work-room c t work h =
     let twice : L c t * (O c + O c) ≤ L c t * (4 * O c + 16 * F c + 8) = mul-le-mul-left (L c t) (omega arith) in
     omega (arith, mul-add (L c t) (O c) (O c))
-
--- the run of no fault
-pub free-rows : (c t table old : List ℕ) → table ≡ overwritten (gather (λ u. outputsAt c t noFault (powerUp c) u) (L c t)) old → Rows (O c) (L c t) table (λ u. freeOutputs c t u)
-unfolding freeOutputs
-free-rows c t table old e = response-rows c t noFault table old e
 
 -- what the stages ask for, of an accepted job
 pub gradable : {c t fs plan pins flops outs : List ℕ} {k work result : ℕ} {job : Job} → GradeReady c t fs plan k work result → JobOf c t job → Tables c pins flops outs → Gradable c t plan k job pins flops outs

@@ -1,16 +1,16 @@
 // The call Grade.
 ghost use mathlib.Core.Path.{_≡_};
-ghost use Prim.Native.Nat.{_+_, _*_, _<_, _≤_};
+ghost use Prim.Native.Nat.{_*_, _≤_};
 ghost use lib.ListN.{length};
 ghost use Rattle.lists.specs.Field.{overwritten};
-ghost use Rattle.model.specs.Inputs.{O, L, faultCount};
+ghost use Rattle.model.specs.Inputs.{faultCount};
 ghost use Rattle.model.specs.Accepted.{GradeReady, ValidInputs};
 ghost use Rattle.model.specs.Refusals.{gradeRefusal, unlessRefused};
 ghost use Rattle.model.specs.Grade.{gradeBytes, gradeAnswer, gradeArea};
 ghost use Rattle.model.specs.Promises.{Demand3};
 ghost use Rattle.faults.specs.Given.{Blank};
 ghost use Rattle.job.specs.Job.{answerOf, JobOf};
-ghost use Rattle.stages.specs.Stages.{Tabled, Gradable, Standing};
+ghost use Rattle.stages.specs.Stages.{Gradable, Standing};
 use job::Job;
 use job::JobCheck;
 use job::Outcome;
@@ -93,45 +93,6 @@ fn grade_list(
     }
 }
 
-// The fault-free responses, at the beginning of the work area.
-fn write_free(
-    c: &[u8],
-    job: Job,
-    t: &[u8],
-    pins: &[u16],
-    flops: &[usize],
-    outs: &[usize],
-    hits: &Hits,
-    masks: &Masks,
-    feed: &mut Feed,
-    words: &mut Words,
-    state: &mut State,
-    states: &mut Table,
-    work: &mut [u8],
-)
-    requires { ⌜ (Tabled (now c) (now t) job (now pins) (now flops) (now outs)) × (Blank (now hits) (now masks)) × (L (now c) (now t) * O (now c) + L (now c) (now t) * O (now c) ≤ length (now work)) ⌝ }
-    ensures { λ _. ⌜ Standing (now (c .entry)) (now (t .entry)) (now (work .exit)) ⌝ }
-{
-    run::power_up(c, job.flops, state);
-    run::write_run(
-        c,
-        job,
-        t,
-        0,
-        pins,
-        flops,
-        outs,
-        hits,
-        masks,
-        feed,
-        words,
-        state,
-        0,
-        work,
-        states,
-    );
-}
-
 // The records of an accepted job.
 fn grade_job(
     c: &[u8],
@@ -163,7 +124,7 @@ fn grade_job(
     let mut times = [0usize; 12];
     let mut extras = [0u8; 6144];
     circuit::list_tables(c, job.lines, &mut pins, &mut flops, &mut outs);
-    write_free(
+    batch::write_free(
         c,
         job,
         t,

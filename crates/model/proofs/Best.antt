@@ -19,11 +19,11 @@ larger-more : (a b : ℕ) (rest : Bool) → b < a → larger a b rest ≡ true
 unfolding larger
 larger-more a b rest h = rw (lt-ltb b a h)
 
-larger-less : (a b : ℕ) (rest : Bool) → a < b → larger a b rest ≡ false
+pub larger-less : (a b : ℕ) (rest : Bool) → a < b → larger a b rest ≡ false
 unfolding larger
 larger-less a b rest h = rw (le-ltb b a (omega arith), lt-ltb a b h)
 
-larger-same : (a b : ℕ) (rest : Bool) → a ≡ b → larger a b rest ≡ rest
+pub larger-same : (a b : ℕ) (rest : Bool) → a ≡ b → larger a b rest ≡ rest
 unfolding larger
 larger-same a b rest h = rw (le-ltb b a (omega arith), le-ltb a b (omega arith))
 

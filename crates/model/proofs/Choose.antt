@@ -8,6 +8,7 @@ use lib.ListN.{getD, length, take, length-append, length-take, List·getD-append
 use lib.Dec.{eqb, ltb}
 use lib.Seq.{take-append-le, take-at, getD-at, take-suc, take-length}
 use native.Mathlib.Omega.{arith}
+use native.Mathlib.Numerals.{add-one}
 use native.Mathlib.Decide.{decLe}
 use borrow.Author.Tests.{lt-ltb, le-ltb, eq-eqb}
 use Rattle.lists.specs.Field.{word16, bytes16}
@@ -47,10 +48,16 @@ plan-back [] f n h = absurd (let z : ⊥ = omega arith in z)
 plan-back (q ∷ pairs) f zero h = plan-first q pairs (f 0 (omega arith) .0) (f 0 (omega arith) .1)
 plan-back (q ∷ pairs) f (suc n) h = plan-next q pairs n ∙ plan-back pairs (λ m l. f (suc m) (omega arith)) n (omega arith)
 
-length-plan : (pairs : List (ℕ × ℕ)) → length (planBytes pairs) ≡ 4 * length pairs
+pub length-plan : (pairs : List (ℕ × ℕ)) → length (planBytes pairs) ≡ 4 * length pairs
 unfolding planBytes bytes16
 length-plan [] = refl
 length-plan (q ∷ pairs) = omega (arith, length-plan pairs)
+
+-- one pair more
+pub plan-more : (pairs : List (ℕ × ℕ)) (u i : ℕ) → planBytes (pairs ++ ((u, i) ∷ [])) ≡ planBytes pairs ++ (bytes16 u ++ bytes16 i)
+unfolding planBytes bytes16
+plan-more [] u i = refl
+plan-more (q ∷ pairs) u i = rw (plan-more pairs u i)
 
 plan-count : (pairs : List (ℕ × ℕ)) → planCount (planBytes pairs) ≡ length pairs
 unfolding planCount
@@ -148,11 +155,21 @@ module _ (c t : List ℕ) (f : Fault) where
   chosen-chain k none = (bestPairs-chain k, length-bestPairs k)
   chosen-chain k (some v) = (λ n h. absurd (let z : ⊥ = omega arith in z), omega arith)
 
-  chosen-undecided : (k : ℕ) → beforeStage5 c t f ≡ none → chosen c t f k ≡ bestPairs c t f k
+  -- a pair that is next is added; where none is, none will be
+  pub bestPairs-more : (m : ℕ) (q : ℕ × ℕ) → nextPair c t f (bestPairs c t f m) ≡ some q → bestPairs c t f (m + 1) ≡ bestPairs c t f m ++ (q ∷ [])
+  unfolding bestPairs withPair
+  bestPairs-more m q e = rw (add-one m, e)
+
+  pub bestPairs-stop : (m k : ℕ) → nextPair c t f (bestPairs c t f m) ≡ none → bestPairs c t f (m + k) ≡ bestPairs c t f m
+  unfolding bestPairs withPair
+  bestPairs-stop m zero e = let same : m + 0 ≡ m = omega arith in rw same
+  bestPairs-stop m (suc k) e = let more : m + suc k ≡ suc (m + k) = omega arith in rw (more, bestPairs-stop m k e, e)
+
+  pub chosen-undecided : (k : ℕ) → beforeStage5 c t f ≡ none → chosen c t f k ≡ bestPairs c t f k
   unfolding chosen unlessDecided
   chosen-undecided k e = rw e
 
-  chosen-decided : (k : ℕ) (v : Verdict) → beforeStage5 c t f ≡ some v → chosen c t f k ≡ []
+  pub chosen-decided : (k : ℕ) (v : Verdict) → beforeStage5 c t f ≡ some v → chosen c t f k ≡ []
   unfolding chosen unlessDecided
   chosen-decided k v e = rw e
 

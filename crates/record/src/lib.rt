@@ -1,4 +1,5 @@
 // The verdict record of Grade: what it says of one fault, and its 16 bytes.
+ghost use mathlib.Core.List.{_++_};
 ghost use mathlib.Core.Path.{_≡_};
 ghost use Prim.Native.Nat.{_+_, _≤_};
 ghost use lib.ListN.{length};
@@ -65,6 +66,15 @@ pub fn put16(area: &mut [u8], at: usize, value: usize)
 {
     area[at] = (value % 256) as u8;
     area[at + 1] = (value / 256 % 256) as u8;
+}
+
+// Two 16-bit fields, at the area's beginning.
+pub fn put_two(area: &mut [u8], first: usize, second: usize)
+    requires { ⌜ 4 ≤ length (now area) ⌝ }
+    ensures { λ _. ⌜ now (area .exit) ≡ overwritten (bytes16 first ++ bytes16 second) (now (area .entry)) ⌝ }
+{
+    put16(area, 0, first);
+    put16(area, 2, second);
 }
 
 // The record's 16 bytes, at the area's beginning.

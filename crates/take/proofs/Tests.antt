@@ -103,7 +103,7 @@ meets-as size m r extras table a b z fits room e ea eb =
     e ∙ rw (ea, eb, ← low, ← high, ← other)
 
 -- ---- the tests that need no trial
-outputs-as : (c t : List ℕ) (f : Fault) (left : ℕ) → OpenUnits c t f left → (u : ℕ) → u < L c t → outputsLeft c t f u ≡ leb u left
+pub outputs-as : (c t : List ℕ) (f : Fault) (left : ℕ) → OpenUnits c t f left → (u : ℕ) → u < L c t → outputsLeft c t f u ≡ leb u left
 unfolding outputsLeft
 outputs-as c t f left reach zero h = sym (le-leb 0 left (omega arith))
 outputs-as c t f left reach (suc u) h = elim (decLe (suc u) left) [

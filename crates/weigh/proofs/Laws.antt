@@ -7,16 +7,19 @@ use native.Mathlib.Omega.{arith}
 use native.Mathlib.Decide.{decLe}
 use lib.Dec.{eqb, leb, ltb}
 use lib.ListN.{getD, length, take, drop}
+use lib.Seq.{getD-take, getD-drop}
 use borrow.Author.Tests.{eq-eqb, ne-eqb, eqb-true, eqb-false, lt-ltb, le-leb, lt-leb}
 use Rattle.lists.specs.Field.{bytes16, overwritten, rowOf, Rows}
-use Rattle.lists.proofs.Field.{row-fits, part-taken, length-row}
+use Rattle.lists.proofs.Field.{part-taken}
 use Rattle.lists.proofs.Scan.{getD-any}
 use Rattle.lists.proofs.Tests.{by-test, by-eq, cond-cases}
 use Rattle.model.specs.Inputs.{N, F, O, L, Fault}
 use Rattle.model.specs.Values.{X, isSpecified}
 use Rattle.model.specs.Simulation.{nextState, plainState, freeOutputs}
 use Rattle.model.specs.Implication.{extra}
-use Rattle.model.specs.Expansion.{stateRow}
+use Rattle.model.specs.Expansion.{rowAfter, stateRow}
+use Rattle.rows.proofs.Laws.{length-giveRow}
+use Rattle.trial.proofs.Laws.{state-size}
 use Rattle.model.specs.Sequences.{outputsLeft, touches, takes}
 use Rattle.model.specs.Choose.{size, smallerExtra, largerExtra}
 use Rattle.lanes.specs.Lane.{Lane}
@@ -25,7 +28,7 @@ use Rattle.trial.specs.Trial.{Tried}
 use Rattle.sequences.specs.Ends.{Taken}
 use Rattle.expand.specs.Expand.{isX, pairAt, Filled, WordOf}
 use Rattle.expand.proofs.Tries.{word-of}
-use Rattle.expand.proofs.Place.{position, place-below, first-unit, table-at}
+use Rattle.expand.proofs.Place.{position, place-below, first-unit}
 use Rattle.take.specs.Take.{withRow, withPair, LaneExtra}
 use Rattle.take.proofs.Table.{row-with, lent-row}
 use Rattle.take.proofs.Extras.{Says, lanes-made}
@@ -90,9 +93,11 @@ module _ (c t : List ℕ) (f : Fault) (pairs : List (ℕ × ℕ)) (m : ℕ) (tim
   pub entries-turn : (from e : ℕ) (table table′ table″ extras′ extras″ : List ℕ) → from ≤ e → 4 * e + 4 ≤ length table → length table′ ≡ length table → Entries c t f pairs m times from e table extras′ table′
       → EntryAt c t f pairs m times e table′ extras″ table″ → Entries c t f pairs m times from (e + 1) table extras″ table″
   entries-turn from e table table′ table″ extras′ extras″ h fits long old new = record {
-    weighed = record { at = λ d g l. by-eq d e
-        (λ q. rw q (here e (omega arith) ∙ rw (eq-eqb e e refl)))
-        (λ n. here d (omega arith) ∙ rw (ne-eqb d e n) (old .weighed .at d g (less d n l))) };
+    weighed = record {
+      at = λ d g l. by-eq d e
+          (λ q. rw q (here e (omega arith) ∙ rw (eq-eqb e e refl)))
+          (λ n. here d (omega arith) ∙ rw (ne-eqb d e n) (old .weighed .at d g (less d n l)));
+    };
     before = λ d g l. here d (omega arith) ∙ rw (ne-eqb d e (λ q. (let z : ⊥ = omega arith in z))) (old .before d g l);
     behind = λ d g l. here d (omega arith) ∙ rw (ne-eqb d e (λ q. (let z : ⊥ = omega arith in z))) (old .behind d (omega arith) l);
     taken = new .taken;
@@ -108,27 +113,33 @@ module _ (c t : List ℕ) (f : Fault) (pairs : List (ℕ × ℕ)) (m : ℕ) (tim
   pub entries-join : (from middle to : ℕ) (table table′ table″ extras′ extras″ : List ℕ) → from ≤ middle → middle ≤ to → 4 * to ≤ length table → length table′ ≡ length table
       → Entries c t f pairs m times from middle table extras′ table′ → Entries c t f pairs m times middle to table′ extras″ table″ → Entries c t f pairs m times from to table extras″ table″
   entries-join from middle to table table′ table″ extras′ extras″ h g room long old new = record {
-    weighed = record { at = λ d l r. elim (decLe (suc d) middle) [
-      | yes q ↦ new .before d q (rw long (omega arith)) ∙ old .weighed .at d l q
-      | no q ↦ new .weighed .at d (omega arith) r
-    ] };
+    weighed = record {
+      at = λ d l r. elim (decLe (suc d) middle) [
+        | yes q ↦ new .before d q (rw long (omega arith)) ∙ old .weighed .at d l q
+        | no q ↦ new .weighed .at d (omega arith) r
+      ];
+    };
     before = λ d l r. new .before d (omega arith) (rw long r) ∙ old .before d l r;
     behind = λ d l r. new .behind d l (rw long r) ∙ old .behind d (omega arith) r;
     taken = new .taken;
   }
 
+-- a row of the state list has a place for each flip-flop
+length-after : (c t : List ℕ) (f : Fault) (u i : ℕ) → length (rowAfter c t f u i) ≡ F c
+unfolding rowAfter
+length-after c t f u zero = state-size c t f u _ refl
+length-after c t f u (suc i) = length-giveRow _ _ ∙ length-after c t f u i
+
 -- ---- the pair at position e
 module _ {c t : List ℕ} {f : Fault} {pairs : List (ℕ × ℕ)} {count stop : ℕ} {states list : List ℕ} {m : ℕ} {times extras : List ℕ}
     (w : Weighing c t f pairs count stop states list m times extras) (some : 0 < F c) (e : ℕ) (inside : e < stop) where
-  below : e < L c t * F c
-  below = omega (arith, position (F c) e, place-below (F c) e some, row-fits (F c) (e / F c) (L c t) (w .unit e inside))
-
   -- its bit in the state list
   bit-is : getD (stateRow c t f (e / F c)) (e % F c) X ≡ getD list e 0
+  unfolding stateRow rowOf
   bit-is =
-      let row = w .rows .at (e / F c) (w .unit e inside) in
-      let long : length (stateRow c t f (e / F c)) ≡ F c = ap length (sym row) ∙ length-row (F c) (e / F c) list (omega (arith, w .room, row-fits (F c) (e / F c) (L c t) (w .unit e inside))) in
-      getD-any (stateRow c t f (e / F c)) (e % F c) X 0 (omega (arith, place-below (F c) e some)) ∙ ap (λ r. getD r (e % F c) 0) (sym row) ∙ sym (table-at (F c) (L c t) e list some (w .room) below)
+      let low : e % F c < F c = place-below (F c) e some in
+      getD-any (stateRow c t f (e / F c)) (e % F c) X 0 (rw (length-after c t f (e / F c) (F c)) low) ∙ ap (λ r. getD r (e % F c) 0) (sym (w .rows .at (e / F c) (w .unit e inside)))
+      ∙ getD-take (F c) (drop (F c * (e / F c)) list) (e % F c) 0 low ∙ getD-drop (F c * (e / F c)) list (e % F c) 0 ∙ ap (λ k. getD list k 0) (sym (position (F c) e))
 
   pub known-at : isX list e ≡ false → weightBytes 0 0 ≡ entryOf c t f pairs (e / F c) (e % F c)
   unfolding isX
@@ -152,7 +163,6 @@ weighing-again w width taken = record {
   fault = w .fault;
   plain = w .plain;
   rows = w .rows;
-  room = w .room;
   three = w .three;
   unit = w .unit;
   outputs = w .outputs;

@@ -39,7 +39,6 @@ pub record Weighing (c t : List ℕ) (f : Fault) (pairs : List (ℕ × ℕ)) (co
   pub fault : ValidFault c f
   pub plain : Rows (F c) (L c t) states (λ u. plainState c t f u)
   pub rows : Rows (F c) (L c t) list (λ u. stateRow c t f u)
-  pub room : L c t * F c ≤ length list
   pub three : (u : ℕ) → u < L c t → ThreeValued (stateRow c t f u)
   pub unit : (e : ℕ) → e < stop → e / F c < L c t
   pub outputs : (e : ℕ) → e < stop → outputsLeft c t f (e / F c) ≡ true

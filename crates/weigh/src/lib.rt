@@ -5,11 +5,10 @@ ghost use mathlib.Core.Path.{_≡_};
 ghost use mathlib.Core.Bool.{true};
 ghost use Prim.Native.Nat.{_+_, _*_, _/_, _<_, _≤_, min, max};
 ghost use lib.ListN.{length};
-ghost use Rattle.lists.specs.Field.{overwritten, rowOf};
+ghost use Rattle.lists.specs.Field.{rowOf};
 ghost use Rattle.model.specs.Inputs.{F, O, L};
 ghost use Rattle.model.specs.Choose.{size};
 ghost use Rattle.expand.specs.Expand.{isX, pairAt};
-ghost use Rattle.best.specs.Weights.{weightBytes};
 ghost use Rattle.stages.specs.Stages.{Tabled};
 ghost use Rattle.weigh.specs.Weigh.{EntryMade, WeighedAt, WeighedWord, WeighedFrom, WeighedFirst, WeighedStart};
 use job::Job;
@@ -38,15 +37,6 @@ fn in_order(a: usize, b: usize) -> Sizes
     Sizes { small: a, large: b }
 }
 
-// An entry, at the beginning of the part of the table that it begins.
-fn put_weight(entry: &mut [u8], first: usize, second: usize)
-    requires { ⌜ 4 ≤ length (now entry) ⌝ }
-    ensures { λ _. ⌜ now (entry .exit) ≡ overwritten (weightBytes first second) (now (entry .entry)) ⌝ }
-{
-    record::put16(entry, 0, first);
-    record::put16(entry, 2, second);
-}
-
 // How many bits the extra in row r gives.
 fn row_size(count: usize, extras: &[u8], r: usize) -> usize
     requires { ⌜ count * r + count ≤ length (now extras) ⌝ }
@@ -71,13 +61,13 @@ fn enter(
     ensures { λ _. ⌜ EntryMade count (now (list .entry)) u (now (times .entry)) m (now (extras .entry)) (now (entry .entry)) (now (entry .exit)) ⌝ }
 {
     if take::touches(count, list, u, times, m, extras) {
-        put_weight(entry, 0, 0);
+        record::put_two(entry, 0, 0);
         return;
     }
     let zero = row_size(count, extras, 2 * m);
     let one = row_size(count, extras, 2 * m + 1);
     let sizes = in_order(zero, one);
-    put_weight(entry, sizes.small + 1, sizes.large);
+    record::put_two(entry, sizes.small + 1, sizes.large);
 }
 
 // The entry of the pair at position e, which is pair p of a word if its bit is X in the state list.
@@ -100,21 +90,12 @@ fn weigh_at(
 {
     let at = 4 * e;
     if list[e] != 2 {
-        put_weight(&mut table[at..], 0, 0);
+        record::put_two(&mut table[at..], 0, 0);
         return;
     }
     let u = e / count;
     take::lane_extra(count, states, u, after, marks, 2 * p, 2 * m, extras);
-    take::lane_extra(
-        count,
-        states,
-        u,
-        after,
-        marks,
-        2 * p + 1,
-        2 * m + 1,
-        extras,
-    );
+    take::lane_extra(count, states, u, after, marks, 2 * p + 1, 2 * m + 1, extras);
     enter(count, list, u, times, m, extras, &mut table[at..]);
 }
 
@@ -140,7 +121,17 @@ fn weigh_word(
     let mut e = at;
     while e < next {
         weigh_at(
-            count, states, list, after, marks, p, e, m, times, extras, table,
+            count,
+            states,
+            list,
+            after,
+            marks,
+            p,
+            e,
+            m,
+            times,
+            extras,
+            table,
         );
         p += basics::one_if(list[e] == 2);
         e += 1;
@@ -201,7 +192,17 @@ pub fn weigh(
         );
         unit::next_state(c, flops, job.flops, hits, masks, words, state);
         weigh_word(
-            job.flops, states, list, state, marks, at, batch.next, m, times, extras, table,
+            job.flops,
+            states,
+            list,
+            state,
+            marks,
+            at,
+            batch.next,
+            m,
+            times,
+            extras,
+            table,
         );
         at = batch.next;
     }
@@ -222,7 +223,7 @@ fn weigh_first(
 {
     let at = 4 * i;
     if list[i] != 2 {
-        put_weight(&mut table[at..], 0, 0);
+        record::put_two(&mut table[at..], 0, 0);
         return;
     }
     take::first_extras(count, i, m, extras);

@@ -2,7 +2,7 @@ use mathlib.Core.Path.{_≡_, sym, _∙_}
 use mathlib.Core.Bool.{false}
 use borrow.Author.Tests.{not-true}
 use Rattle.lanes.specs.Lane.{bit}
-use Rattle.stages.proofs.Laws.{graded-5}
+use Rattle.stages.proofs.Laws.{before-5, graded-before}
 use Rattle.batch.proofs.Laws.{graded-1, open-first, none-left}
 use borrow.Author.Needs.{needs}
 use Rattle.batch.proofs.grade_fault.Statement.{statement}
@@ -36,7 +36,8 @@ returns-2 c =
     let g = s .pre .0 .tabled in record {
       verdict = λ known.
           c .placed2 .ensures
-          ∙ sym (graded-5 _ _ _ (open-first _ _ _ _ _ _ _ known (unplaced else)) (g .circuit) (g .test) (s .pre .4) (none-left _ _ _ _ _ _ _ known (unplaced else) (sym (then .before .has-lane2 .ensures) ∙ not-true _ (then .if2 .taken))) _ _);
+          ∙ sym (graded-before _ _ _ _ _ _ (before-5 _ _ _ (open-first _ _ _ _ _ _ _ known (unplaced else)) (g .circuit) (g .test) (s .pre .4)
+          (none-left _ _ _ _ _ _ _ known (unplaced else) (sym (then .before .has-lane2 .ensures) ∙ not-true _ (then .if2 .taken)))));
       blank = s .pre .2;
       stands = s .pre .1;
     }

@@ -6,6 +6,7 @@ use native.Mathlib.Nat.{min-le-left}
 use Rattle.lists.specs.Field.{overwritten}
 use Rattle.model.specs.Choose.{size}
 use Rattle.take.proofs.Table.{pair-room, row-before}
+use Rattle.best.specs.Weights.{weightBytes}
 use Rattle.weigh.proofs.Laws.{entry-touched, entry-free}
 use Rattle.weigh.proofs.enter.Statement.{statement}
 use Rattle.weigh.proofs.enter.Tie as tie
@@ -28,11 +29,12 @@ touches-requires c κs =
     )
 
 returns : tie.Need-returns
+unfolding weightBytes
 returns c = record {
   is = λ cs ts f pairs i width candidate taken row low high.
       let put = c .before .before in
       let then = put .before .before in
-      put .put-weight .ensures ∙ ap (λ x. overwritten x (start (then .before) .args .entry .now))
+      put .put-two .ensures ∙ ap (λ x. overwritten x (start (then .before) .args .entry .now))
       (entry-touched cs ts f pairs _ i candidate _ (then .before .touches .ensures .is cs ts f pairs _ _ width taken row low high) (then .if1 .taken));
 }
 
@@ -45,6 +47,7 @@ row-size-requires-2 : tie.Need-row-size-requires-2
 row-size-requires-2 c κs = omega (arith, room (start (c .before .before .before .before)), c .row-size-arg2 .given .0)
 
 returns-2 : tie.Need-returns-2
+unfolding weightBytes
 returns-2 c = record {
   is = λ cs ts f pairs i width candidate taken row low-is high-is.
       let put = c .before .before in
@@ -52,7 +55,7 @@ returns-2 c = record {
       let one = order .before in
       let zero = one .before .before in
       let else = zero .before .before in
-      put .put-weight2 .ensures ∙ ap (λ x. overwritten x (start (else .before) .args .entry .now))
+      put .put-two2 .ensures ∙ ap (λ x. overwritten x (start (else .before) .args .entry .now))
       (entry-free cs ts f pairs _ i candidate _ (else .before .touches .ensures .is cs ts f pairs _ _ width taken row low-is high-is) (else .if1 .left)
       _ _ _ _ (zero .row-size .ensures .0 ∙ ap size low-is) (one .row-size2 .ensures .0 ∙ ap size high-is) (order .in-order .ensures .0) (order .in-order .ensures .1));
 }

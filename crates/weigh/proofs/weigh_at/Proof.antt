@@ -7,6 +7,7 @@ use Rattle.lists.proofs.Field.{length-lent}
 use Rattle.model.specs.Inputs.{F}
 use Rattle.expand.specs.Expand.{isX}
 use Rattle.take.proofs.Table.{pair-room, row-before, row-as}
+use Rattle.best.specs.Weights.{weightBytes}
 use Rattle.weigh.proofs.Laws.{known-at, candidate-at, pair-extras, entry-at, entry-passed}
 use borrow.Author.Needs.{needs}
 use Rattle.weigh.proofs.weigh_at.Statement.{statement}
@@ -31,13 +32,14 @@ unfolding isX
 unknown c = eq-eqb _ _ (c .if1 .left)
 
 returns : tie.Need-returns
+unfolding weightBytes
 returns c =
     let put = c .before .before in
     let then = put .before .before in
     let s = start (then .before) in record {
       entry = λ cs ts f pairs stop at next w word first h l last p.
           entry-passed (s .args .e) (s .args .table .now) _ (omega (arith, s .pre .6)) (w .taken)
-          (known-at w (omega (arith, s .pre .0, w .width)) (s .args .e) (omega (arith, l, last)) (known then)) (put .put-weight .ensures);
+          (known-at w (omega (arith, s .pre .0, w .width)) (s .args .e) (omega (arith, l, last)) (known then)) (put .put-two .ensures);
     }
 
 -- room for the rows of the pair

@@ -9,6 +9,7 @@ use Rattle.model.specs.Inputs.{F}
 use Rattle.expand.specs.Expand.{isX}
 use Rattle.take.proofs.Table.{pair-room, row-as}
 use Rattle.take.proofs.Extras.{first-made}
+use Rattle.best.specs.Weights.{weightBytes}
 use Rattle.weigh.proofs.Laws.{known-at, candidate-at, entry-at, entry-passed}
 use borrow.Author.Needs.{needs}
 use Rattle.weigh.proofs.weigh_first.Statement.{statement}
@@ -30,13 +31,14 @@ unfolding isX
 unknown c = eq-eqb _ _ (c .if1 .left)
 
 returns : tie.Need-returns
+unfolding weightBytes
 returns c =
     let put = c .before .before in
     let then = put .before .before in
     let s = start (then .before) in record {
       entry = λ cs ts f pairs stop states w inside.
           entry-passed (s .args .i) (s .args .table .now) _ (omega (arith, s .pre .3)) (w .taken)
-          (known-at w (omega (arith, s .pre .1, w .width)) (s .args .i) inside (known then)) (put .put-weight .ensures);
+          (known-at w (omega (arith, s .pre .1, w .width)) (s .args .i) inside (known then)) (put .put-two .ensures);
     }
 
 -- room for the rows of the pair

@@ -4,10 +4,10 @@ use Rattle.model.proofs.ThreeValued.{powerUp-three}
 use Rattle.run.proofs.Laws.{length-powerUp}
 use Rattle.faults.proofs.Laws.{blank-stuck}
 use Rattle.stages.proofs.Laws.{runs}
-use Rattle.grade.proofs.Laws.{free-rows}
+use Rattle.batch.proofs.Laws.{free-rows}
 use borrow.Author.Needs.{needs}
-use Rattle.grade.proofs.write_free.Statement.{statement}
-use Rattle.grade.proofs.write_free.Tie as tie
+use Rattle.batch.proofs.write_free.Statement.{statement}
+use Rattle.batch.proofs.write_free.Tie as tie
 
 -- places
 abbrev start : tie.After-power-up → tie.Start
