@@ -2,7 +2,7 @@
 use mathlib.Core.Path.{_≡_, refl, sym, ap, _∙_}
 use mathlib.Core.Bool.{true, false, cond, _&&_}
 use mathlib.Core.List.{List, [], _∷_, _++_, append-nil, append-assoc}
-use mathlib.Core.Option.{none, some, Option·getD}
+use mathlib.Core.Option.{none, some}
 use Prim.Native.Nat.{ℕ, suc, _+_, _*_, _/_, _≤_, _<_}
 use native.Mathlib.Omega.{arith}
 use native.Mathlib.Decide.{decLe}
@@ -10,13 +10,17 @@ use lib.Dec.{eqb}
 use lib.ListN.{getD, length, set, length-append}
 use lib.Seq.{getD-set-other, sets}
 use borrow.Author.Tests.{eqb-true, eq-eqb, ne-eqb}
-use Rattle.lists.specs.Scan.{first, gather}
+use Rattle.lists.specs.Scan.{gather}
 use Rattle.lists.specs.Field.{bytes16, overwritten}
 use Rattle.lists.proofs.Tests.{and-left, and-right, is-false}
-use Rattle.lists.proofs.Scan.{Lowest, first-lowest, first-fails, length-gather, gather-turn}
+use Rattle.lists.proofs.Scan.{first-lowest, first-fails, length-gather, gather-turn}
 use Rattle.lists.proofs.Field.{overwritten-none, overwritten-more}
 use Rattle.model.specs.Grade.{recordAt}
 use Rattle.model.specs.Group.{alike, groupOf, groupBytes}
+use Rattle.model.specs.Refusals.{Refusal}
+use Rattle.rules.specs.Check.{refusalOf}
+use Rattle.rules.specs.declared.Check.{Check}
+use Rattle.rules.specs.declared.Check.the-variants.{Passed, Broken}
 use Rattle.group.specs.Groups.{KeyOf, Groups, Sought, GroupsTo}
 
 -- ---- keys
@@ -84,10 +88,10 @@ module _ {vs keys firsts : List ℕ} {j count r : ℕ} (g : Groups vs j count ke
   unfolding groupOf
   group-found = elim (decLe (suc r) count) [
     | yes h ↦ rw (first-lowest (λ a. alike vs a j) j (getD firsts r 0) record {
-        below = g .below r h;
-        passes = key-alike (old h) key;
-        fails = λ a l. unlike key (λ q. g .lowest r a h l (rw (s .found) q));
-      })
+      below = g .below r h;
+      passes = key-alike (old h) key;
+      fails = λ a l. unlike key (λ q. g .lowest r a h l (rw (s .found) q));
+    })
     | no h ↦ (
         let e : r ≡ count = omega (arith, s .within) in
         rw (e, own, first-fails (λ a. alike vs a j) j (λ a l. unlike key (new e a l))))
@@ -143,3 +147,15 @@ written-more {vs} {old} {area} {j = j} v to same e room = record {
 pub written-all : {vs old area : List ℕ} {n : ℕ} → n ≡ length vs / 16 → GroupsTo vs n old area → area ≡ overwritten (groupBytes vs) old
 unfolding groupBytes
 written-all e to = rw (← e) (to .all)
+
+-- ---- the check's answer
+module _ {rows : Refusal} {r : Check} where
+  -- records that are passed break no row
+  pub passed-none : refusalOf r ≡ rows → r ≡ Passed → rows ≡ none
+  unfolding refusalOf
+  passed-none checked e = sym checked ∙ ap refusalOf e
+
+  -- those that are not break the row that is named
+  pub broken-some : {rule at : ℕ} → refusalOf r ≡ rows → r ≡ Broken rule at → rows ≡ some (rule, at)
+  unfolding refusalOf
+  broken-some checked e = sym checked ∙ ap refusalOf e

@@ -1,7 +1,7 @@
 // The call Group: for each verdict record the position of the first that has its verdict, time and line. A record is compared with the first
 // of each group so far, not with every record before it; and what is compared is one number, the key.
 ghost use mathlib.Core.Path.{_≡_};
-ghost use Prim.Native.Nat.{_+_, _*_, _/_, _<_, _≤_};
+ghost use Prim.Native.Nat.{_+_, _*_, _<_, _≤_};
 ghost use lib.ListN.{length};
 ghost use Rattle.lists.specs.Field.{overwritten};
 ghost use Rattle.model.specs.Accepted.{GroupReady};

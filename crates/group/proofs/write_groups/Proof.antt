@@ -1,89 +1,78 @@
+-- The groups of the records below j are known, each by its first record and that record's key, and are written.
+use mathlib.Core.Path.{_≡_, refl}
+use mathlib.Core.List.{List}
+use Prim.Native.Nat.{ℕ, _-_, _<_, _≤_}
+use native.Mathlib.Omega.{arith}
+use lib.ListN.{getD, length, set, length-set}
+use lib.Seq.{getD-set-same}
+use borrow.Author.Needs.{needs}
+use Rattle.group.specs.Groups.{KeyOf, Groups, GroupsTo}
+use Rattle.group.proofs.Laws.{groups-none, groups-kept, group-found, groups-more, written-none, written-more, written-all}
 use Rattle.group.proofs.write_groups.Statement.{statement}
 use Rattle.group.proofs.write_groups.Tie as tie
-use Rattle.group.proofs.write_groups.Reads as reads
-use Rattle.group.proofs.write_groups.Lts as lts
-use Rattle.basics.proofs.one_if.Reads as one-if-reads
-use Rattle.group.proofs.find.Reads as find-reads
-use Rattle.group.proofs.key_of.Reads as key-of-reads
-use Rattle.record.proofs.put16.Reads as put16-reads
 
 abbrev Inv-loop : tie.InvT-loop
-Inv-loop verdicts result₀ keys₀ firsts₀ size count₀ j₀ result keys firsts count j = ?
+Inv-loop verdicts result₀ keys₀ firsts₀ size count₀ j₀ result keys firsts count j =
+    (j ≤ size) × (length result ≡ length result₀) × (length keys ≡ 32768) × (length firsts ≡ 32768)
+    × (Groups verdicts j count keys firsts) × (GroupsTo verdicts j result₀ result)
 
 abbrev μ-loop : tie.MeasureT-loop
-μ-loop verdicts result₀ keys₀ firsts₀ size count₀ j₀ result keys firsts count j = ?
+μ-loop verdicts result₀ keys₀ firsts₀ size count₀ j₀ result keys firsts count j = size - j
 
--- src/lib.rt:52:5
+-- places
+abbrev start : tie.At-loop Inv-loop μ-loop → tie.Start Inv-loop μ-loop
+start l = l .before .before .before
+
+abbrev keyed : tie.After-find Inv-loop μ-loop → tie.After-key-of Inv-loop μ-loop
+keyed c = c .before .before
+
+abbrev turn : tie.After-find Inv-loop μ-loop → tie.In-loop Inv-loop μ-loop
+turn c = keyed c .before
+
+abbrev found : tie.After-one-if Inv-loop μ-loop → tie.After-find Inv-loop μ-loop
+found c = c .before .before .before .before .before
+
+-- there is a place behind the groups so far
+room : (c : tie.In-loop Inv-loop μ-loop) → c .before .loop .count < 32768
+room c = omega (arith, c .loop-test .taken, start (c .before) .pre .most, c .before .loop .inv .4 .few)
+
+-- the record's key and position stand there
+abbrev keys : tie.After-find Inv-loop μ-loop → List ℕ
+keys c = let loop = turn c .before .loop in set (loop .keys) (loop .count) (keyed c .key-of .result)
+
+abbrev firsts : tie.After-find Inv-loop μ-loop → List ℕ
+firsts c = let loop = turn c .before .loop in set (loop .firsts) (loop .count) (loop .j)
+
+groups : (c : tie.After-find Inv-loop μ-loop) → let l = turn c .before in Groups (start l .args .verdicts .now) (l .loop .j) (l .loop .count) (keys c) (firsts c)
+groups c = groups-kept _ _ (turn c .before .loop .inv .4)
+
+key : (c : tie.After-find Inv-loop μ-loop) → let l = turn c .before in KeyOf (start l .args .verdicts .now) (l .loop .j) (getD (keys c) (l .loop .count) 0)
+key c =
+    let loop = turn c .before .loop in
+    rw (getD-set-same (loop .keys) (loop .count) (keyed c .key-of .result) 0 (omega (arith, room (turn c), loop .inv .2))) (keyed c .key-of .ensures)
+
+own : (c : tie.After-find Inv-loop μ-loop) → let l = turn c .before in getD (firsts c) (l .loop .count) 0 ≡ l .loop .j
+own c = let loop = turn c .before .loop in getD-set-same (loop .firsts) (loop .count) (loop .j) 0 (omega (arith, room (turn c), loop .inv .3))
+
 loop-holds : tie.Need-loop-holds Inv-loop μ-loop
-loop-holds c = ?
+loop-holds c = (omega arith, refl, refl, refl, groups-none _ _ _, written-none _ _)
 
--- src/lib.rt:53:23
-key-of-requires : tie.Need-key-of-requires Inv-loop μ-loop
-key-of-requires c κs = ?
-
--- src/lib.rt:53:9
-mul-keys : tie.Need-mul-keys Inv-loop μ-loop
-mul-keys c = ?
-
--- src/lib.rt:53:9
-array-write-keys : tie.Need-array-write-keys Inv-loop μ-loop
-array-write-keys c = ?
-
--- src/lib.rt:54:9
-mul-firsts : tie.Need-mul-firsts Inv-loop μ-loop
-mul-firsts c = ?
-
--- src/lib.rt:54:9
-array-write-firsts : tie.Need-array-write-firsts Inv-loop μ-loop
-array-write-firsts c = ?
-
--- src/lib.rt:55:13
-find-requires : tie.Need-find-requires Inv-loop μ-loop
-find-requires c κs = ?
-
--- src/lib.rt:56:31
-mul-put16 : tie.Need-mul-put16 Inv-loop μ-loop
-mul-put16 c = ?
-
--- src/lib.rt:56:38
-mul-put16-2 : tie.Need-mul-put16-2 Inv-loop μ-loop
-mul-put16-2 c = ?
-
--- src/lib.rt:56:38
-array-read-put16 : tie.Need-array-read-put16 Inv-loop μ-loop
-array-read-put16 c = ?
-
--- src/lib.rt:56:9
-put16-requires : tie.Need-put16-requires Inv-loop μ-loop
-put16-requires c κs = ?
-
--- src/lib.rt:57:18
-one-if-requires : tie.Need-one-if-requires Inv-loop μ-loop
-one-if-requires c κs = ?
-
--- src/lib.rt:57:9
-add-count : tie.Need-add-count Inv-loop μ-loop
-add-count c = ?
-
--- src/lib.rt:58:9
-add-j : tie.Need-add-j Inv-loop μ-loop
-add-j c = ?
-
--- src/lib.rt:52:5
-loop-less : tie.Need-loop-less Inv-loop μ-loop
-loop-less c = ?
-
--- src/lib.rt:52:5
 loop-again : tie.Need-loop-again Inv-loop μ-loop
-loop-again c = ?
+loop-again c =
+    let f = found c in
+    let l = turn f .before in
+    let inv = l .loop .inv in (
+      omega (arith, turn f .loop-test .taken),
+      omega (arith, c .before .before .result .given, inv .1),
+      rw length-set (inv .2),
+      rw length-set (inv .3),
+      rw (c .one-if .ensures .0) (groups-more (groups f) (key f) (own f) (f .find .ensures)),
+      written-more _ (inv .5) (group-found (groups f) (key f) (own f) (f .find .ensures)) (c .before .before .before .put16 .ensures)
+          (omega (arith, turn f .loop-test .taken, start l .pre .resultRoom)),
+    )
 
--- src/lib.rt:43:1
-same-length : tie.Need-same-length Inv-loop μ-loop
-same-length c = ?
-
--- src/lib.rt:43:1
 returns : tie.Need-returns Inv-loop μ-loop
-returns c = ?
+returns c = let inv = c .before .loop .inv in written-all (omega (arith, inv .0, c .loop-test .left)) (inv .5)
 
 pub write-groups-spec : {M : Type 1} → statement M
 write-groups-spec =
@@ -92,20 +81,20 @@ write-groups-spec =
     Inv-loop
     μ-loop
     loop-holds
-    key-of-requires
-    mul-keys
-    array-write-keys
-    mul-firsts
-    array-write-firsts
-    find-requires
-    mul-put16
-    mul-put16-2
-    array-read-put16
-    put16-requires
-    one-if-requires
-    add-count
-    add-j
-    loop-less
+    (λ c κs. omega (arith, c .loop-test .taken))
+    (λ c. omega (arith, room (c .before)))
+    (λ c. room (c .before))
+    (λ c. omega (arith, room (c .before)))
+    (λ c. room (c .before))
+    (λ c κs. room (c .before .before))
+    (λ c. omega (arith, room (turn (c .before)), turn (c .before) .loop-test .taken, start (turn (c .before) .before) .pre .most))
+    (λ c. omega (arith, room (turn (c .before)), c .before .find .ensures .within))
+    (λ c. omega (arith, room (turn (c .before)), c .before .find .ensures .within))
+    (λ c κs. let l = turn (c .before) .before in omega (arith, turn (c .before) .loop-test .taken, l .loop .inv .1, start l .pre .resultRoom))
+    (λ c κs. search needs)
+    (λ c. omega (arith, room (turn (found c)), c .one-if .ensures .1))
+    (λ c. omega (arith, turn (found c) .loop-test .taken, start (turn (found c) .before) .pre .most))
+    (λ c. omega (arith, turn (found c) .loop-test .taken))
     loop-again
-    same-length
+    (λ c. c .before .loop .inv .1)
     returns)
