@@ -1,4 +1,4 @@
--- Equal keys are alike records: so the place that a search finds has the record's group, and the groups with that record are known.
+-- Records are alike where their keys are equal. So the search finds a record's group, and the groups stay known with that record among them.
 use mathlib.Core.Path.{_≡_, refl, sym, ap, _∙_}
 use mathlib.Core.Bool.{true, false, cond, _&&_}
 use mathlib.Core.List.{List, [], _∷_, _++_, append-nil, append-assoc}
@@ -25,24 +25,23 @@ use Rattle.group.specs.Groups.{KeyOf, Groups, Sought, GroupsTo}
 
 -- ---- keys
 module _ {vs : List ℕ} {a j k : ℕ} where
-  pub key-alike : KeyOf vs a k → KeyOf vs j k → alike vs a j ≡ true
+  key-alike : KeyOf vs a k → KeyOf vs j k → alike vs a j ≡ true
   unfolding alike
   key-alike p q =
-      let same : recordAt vs a .verdict + 256 * (recordAt vs a .time + 65536 * recordAt vs a .line) ≡ recordAt vs j .verdict + 256 * (recordAt vs j .time + 65536 * recordAt vs j .line) = sym (p .sum) ∙ q .sum in
       rw (
-        eq-eqb (recordAt vs a .verdict) (recordAt vs j .verdict) (omega (arith, same, p .verdict, q .verdict)),
-        eq-eqb (recordAt vs a .time) (recordAt vs j .time) (omega (arith, same, p .verdict, q .verdict, p .time, q .time)),
-        eq-eqb (recordAt vs a .line) (recordAt vs j .line) (omega (arith, same, p .verdict, q .verdict, p .time, q .time)),
+        eq-eqb (recordAt vs a .verdict) (recordAt vs j .verdict) (omega arith),
+        eq-eqb (recordAt vs a .time) (recordAt vs j .time) (omega arith),
+        eq-eqb (recordAt vs a .line) (recordAt vs j .line) (omega arith),
       )
 
-  pub alike-key : KeyOf vs j k → alike vs a j ≡ true → KeyOf vs a k
+  alike-key : KeyOf vs j k → alike vs a j ≡ true → KeyOf vs a k
   unfolding alike
   alike-key p e =
-      let both = and-left _ _ e in
+      let both : eqb (recordAt vs a .verdict) (recordAt vs j .verdict) && eqb (recordAt vs a .time) (recordAt vs j .time) ≡ true = and-left _ _ e in
       let verdict : recordAt vs a .verdict ≡ recordAt vs j .verdict = eqb-true _ _ (and-left _ _ both) in
-      let time : recordAt vs a .time ≡ recordAt vs j .time = eqb-true _ _ (and-right (eqb (recordAt vs a .verdict) (recordAt vs j .verdict)) _ both) in
-      let line : recordAt vs a .line ≡ recordAt vs j .line = eqb-true _ _ (and-right (eqb (recordAt vs a .verdict) (recordAt vs j .verdict) && eqb (recordAt vs a .time) (recordAt vs j .time)) _ e) in
-      record { verdict = omega (arith, verdict, p .verdict); time = omega (arith, time, p .time); sum = omega (arith, verdict, time, line, p .sum) }
+      let time : recordAt vs a .time ≡ recordAt vs j .time = eqb-true _ _ (and-right (eqb (recordAt vs a .verdict) _) _ both) in
+      let line : recordAt vs a .line ≡ recordAt vs j .line = eqb-true _ _ (and-right (eqb (recordAt vs a .verdict) _ && eqb (recordAt vs a .time) _) _ e) in
+      record { verdict = omega arith; time = omega arith; sum = omega arith }
 
   unlike : KeyOf vs j k → (KeyOf vs a k → ⊥) → alike vs a j ≡ false
   unlike p other = is-false _ (λ e. other (alike-key p e))
@@ -75,7 +74,8 @@ groups-kept {keys = keys} {firsts} {count = count} k p g = record {
 }
 
 -- record j's key and position stand behind them, and its key is sought
-module _ {vs keys firsts : List ℕ} {j count r : ℕ} (g : Groups vs j count keys firsts) (key : KeyOf vs j (getD keys count 0)) (own : getD firsts count 0 ≡ j) (s : Sought keys count r) where
+module _ {vs keys firsts : List ℕ} {j count r : ℕ} (g : Groups vs j count keys firsts) (key : KeyOf vs j (getD keys count 0)) (own : getD firsts count 0 ≡ j)
+    (s : Sought keys count r) where
   -- it is the first with its key
   new : r ≡ count → (a : ℕ) → a < j → KeyOf vs a (getD keys count 0) → ⊥
   new e a l q = g .all (getD keys count 0) a (λ x h. s .before x (omega arith)) l q
@@ -125,7 +125,8 @@ module _ {vs keys firsts : List ℕ} {j count r : ℕ} (g : Groups vs j count ke
 
 -- ---- the groups in the result area
 -- bytes written one by one behind those that are written already
-behind : (new done old area : List ℕ) (i : ℕ) → area ≡ overwritten done old → length done ≡ i → i + length new ≤ length old → sets area i new ≡ overwritten (done ++ new) old
+behind : (new done old area : List ℕ) (i : ℕ) → area ≡ overwritten done old → length done ≡ i → i + length new ≤ length old
+    → sets area i new ≡ overwritten (done ++ new) old
 behind [] done old area i a p h = rw (append-nil done) a
 behind (v ∷ new) done old area i a p h =
     let step : set area i v ≡ overwritten (done ++ (v ∷ [])) old = ap (λ x. set x i v) a ∙ ap (λ n. set (overwritten done old) n v) (sym p) ∙ overwritten-more done old v (omega arith) in
@@ -137,7 +138,8 @@ unfolding gather
 written-none vs area = record { all = sym (overwritten-none area) }
 
 -- one more
-pub written-more : {vs old area area′ : List ℕ} {j : ℕ} (v : ℕ) → GroupsTo vs j old area → groupOf vs j ≡ v → area′ ≡ sets area (2 * j) (bytes16 v) → 2 * j + 2 ≤ length old → GroupsTo vs (j + 1) old area′
+pub written-more : {vs old area area′ : List ℕ} {j : ℕ} (v : ℕ) → GroupsTo vs j old area → groupOf vs j ≡ v → area′ ≡ sets area (2 * j) (bytes16 v) → 2 * j + 2 ≤ length old
+    → GroupsTo vs (j + 1) old area′
 unfolding bytes16
 written-more {vs} {old} {area} {j = j} v to same e room = record {
   all = e ∙ behind (bytes16 v) (gather (λ j. bytes16 (groupOf vs j)) j) old area (2 * j) (to .all) (length-gather (λ j. bytes16 (groupOf vs j)) 2 (λ j. refl) j) room

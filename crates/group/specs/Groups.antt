@@ -8,7 +8,7 @@ use Rattle.lists.specs.Field.{bytes16, overwritten}
 use Rattle.model.specs.Grade.{recordAt}
 use Rattle.model.specs.Group.{groupOf}
 
--- k is made of record j's verdict, time and line, and of no other record's but those alike
+-- k is record j's verdict, time and line in one number, which can be taken apart in one way
 pub record KeyOf (vs : List ℕ) (j k : ℕ) : Type 0 where
   pub verdict : recordAt vs j .verdict < 256
   pub time : recordAt vs j .time < 65536

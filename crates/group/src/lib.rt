@@ -26,7 +26,7 @@ fn key_of(verdicts: &[u8], j: usize) -> usize
     verdict + 256 * (time + 65536 * line)
 }
 
-// The first place whose key is the one at place `count`: no test of the place is needed, since the search ends there.
+// The first place whose key is the one at place `count`. The search ends there at the latest, so each place costs one comparison.
 fn find(keys: &Numbers, count: usize) -> usize
     requires { ⌜ count < 32768 ⌝ }
     ensures { λ r. ⌜ Sought (now (keys .entry)) count r ⌝ }
