@@ -63,13 +63,14 @@ module _ (xs : List ℕ) (i : ℕ) where
   pub length-line-last : i + 1 ≡ length xs → length (numberLine (drop i xs)) ≡ length (decimal (getD xs i 0)) + 1
   length-line-last h = ap length (line-last h) ∙ simp length-append
 
--- each number has so many digits at most, and one byte behind it
-pub line-short : (d : ℕ) (xs : List ℕ) → 0 < length xs → All (λ n. length (decimal n) ≤ d) xs → length (numberLine xs) ≤ suc d * length xs
+-- numbers below a power of ten: no more digits than the power has zeros, and one byte behind them
+pub line-short : (w : ℕ) (xs : List ℕ) → 0 < length xs → All (λ n. n < 10 ^ suc w) xs → length (numberLine xs) ≤ suc (suc w) * length xs
 unfolding numberLine All
-line-short d [] h a = absurd (let z : ⊥ = omega arith in z)
-line-short d (x ∷ []) h a = omega (arith, length-append (decimal x) (10 ∷ []), a .0)
-line-short d (x ∷ y ∷ xs) h a =
-    omega (arith, length-append (decimal x) (32 ∷ numberLine (y ∷ xs)), a .0, line-short d (y ∷ xs) (omega arith) (a .1), mul-suc (suc d) (suc (length xs)))
+line-short w [] h a = absurd (let z : ⊥ = omega arith in z)
+line-short w (x ∷ []) h a = omega (arith, length-append (decimal x) (10 ∷ []), decimal-short w x (a .0))
+line-short w (x ∷ y ∷ xs) h a =
+    omega
+    (arith, length-append (decimal x) (32 ∷ numberLine (y ∷ xs)), decimal-short w x (a .0), line-short w (y ∷ xs) (omega arith) (a .1), mul-suc (suc (suc w)) (suc (length xs)))
 
 -- ---- what is appended
 pub put-set : (at byte : ℕ) (old : List ℕ) → at < length old → Put at (at + 1) (byte ∷ []) old (set old at byte)
