@@ -9,8 +9,9 @@ use Rattle.lists.specs.Scan.{gather}
 use Rattle.lists.specs.Field.{word16}
 use Rattle.lists.proofs.Scan.{All}
 use Rattle.model.specs.Inputs.{faultAt}
-use Rattle.model.specs.Grade.{eightFields, recordAt}
-use Rattle.model.specs.Listing.{numberLine, printed}
+use Rattle.model.specs.Refusals.{gradeRefusal}
+use Rattle.model.specs.Grade.{eightFields, recordAt, gradeBytes}
+use Rattle.model.specs.Listing.{numberLine, jobLines, printed}
 use Rattle.listing.specs.declared.Longer.{Longer}
 
 -- of a file: its first 65,536 bytes, and whether there are more
@@ -39,6 +40,10 @@ pub record Listable (fs records groups : List ℕ) (count : ℕ) : Type 0 where
   pub recorded : 16 * count ≤ length records
   pub grouped : 2 * count ≤ length groups
   pub few : count ≤ 4096
+
+-- the lines of a job whose files are not too long
+unfoldable pub jobPrint : List ℕ → List ℕ → List ℕ → List ℕ → List ℕ
+jobPrint c t fs p = jobLines (gradeRefusal c t fs p 6 65536 65536) fs (gradeBytes c t fs p 6)
 
 -- The print, of which `r` bytes count, is that of the files, where these bytes are what was read of them.
 pub record Printed (circuit test faults plan : List ℕ) (longer : Longer) (r : ℕ) (out : List ℕ) : Type 0 where

@@ -1,11 +1,13 @@
 // What the program prints, from what it has read of its four files: `too long` and a name, `refused` and two numbers, or a line for each fault.
-ghost use mathlib.Core.List.{_∷_};
+ghost use mathlib.Core.Path.{_≡_};
 ghost use Prim.Native.Nat.{_+_, _*_, _<_, _≤_};
-ghost use lib.ListN.{length};
-ghost use Rattle.model.specs.Listing.{numberLine, refusedLine, tooLongLine};
+ghost use lib.ListN.{length, take};
+ghost use Rattle.model.specs.Inputs.{faultCount};
+ghost use Rattle.model.specs.Listing.{numberLine, refusedLine, tooLongLine, gradedLines};
 ghost use Rattle.decimals.specs.Put.{printRoom, Put};
-ghost use Rattle.listing.specs.Print.{faultFields, FieldsOf, linesBelow, Listable};
+ghost use Rattle.listing.specs.Print.{faultFields, FieldsOf, linesBelow, Listable, jobPrint, Printed};
 use decimals::Print;
+use job::Outcome;
 
 // An area that is lent.
 pub type Area = [u8; 65536];
@@ -101,4 +103,70 @@ fn put_faults(faults: &[u8], records: &[u8], groups: &[u8], count: usize, out: &
         j += 1;
     }
     at
+}
+
+// The lines of a job that Grade has accepted: its records stand at the beginning of the result area.
+fn put_graded(
+    faults: &[u8],
+    count: usize,
+    result: &Area,
+    groups: &mut Area,
+    out: &mut Print,
+) -> usize
+    requires { ⌜ (count ≡ faultCount (now faults)) × (count ≤ 4096) ⌝ }
+    ensures { λ r. ⌜ Put 0 r (gradedLines (now (faults .entry)) (take (16 * count) (now (result .entry)))) (now (out .entry)) (now (out .exit)) ⌝ }
+{
+    let area = &result[..];
+    let end = 16 * count;
+    let records = &area[..end];
+    group::group(records, groups);
+    put_faults(faults, records, groups, count, out)
+}
+
+// The lines of a job.
+fn put_job(
+    circuit: &[u8],
+    test: &[u8],
+    faults: &[u8],
+    plan: &[u8],
+    work: &mut Area,
+    result: &mut Area,
+    groups: &mut Area,
+    out: &mut Print,
+) -> usize
+    ensures { λ r. ⌜ Put 0 r (jobPrint (now (circuit .entry)) (now (test .entry)) (now (faults .entry)) (now (plan .entry))) (now (out .entry)) (now (out .exit)) ⌝ }
+{
+    match grade::grade(circuit, test, faults, plan, 6, work, result) {
+        Outcome::Refused { rule, at } => put_refused(out, rule, at),
+        Outcome::Done(count) => put_graded(faults, count, result, groups, out),
+    }
+}
+
+// What the program prints; see README.md, The program.
+pub fn listing(
+    circuit: &[u8],
+    test: &[u8],
+    faults: &[u8],
+    plan: &[u8],
+    longer: Longer,
+    work: &mut Area,
+    result: &mut Area,
+    groups: &mut Area,
+    out: &mut Print,
+) -> usize
+    ensures { λ r. ⌜ Printed (now (circuit .entry)) (now (test .entry)) (now (faults .entry)) (now (plan .entry)) longer r (now (out .exit)) ⌝ }
+{
+    if longer.circuit {
+        return put_too_long(out, b"circuit.dat");
+    }
+    if longer.test {
+        return put_too_long(out, b"test.dat");
+    }
+    if longer.faults {
+        return put_too_long(out, b"faults.dat");
+    }
+    if longer.plan {
+        return put_too_long(out, b"plan.dat");
+    }
+    put_job(circuit, test, faults, plan, work, result, groups, out)
 }

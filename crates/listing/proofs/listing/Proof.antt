@@ -1,0 +1,54 @@
+use borrow.Author.Needs.{needs}
+use Rattle.listing.proofs.Read.{long-circuit, long-test, long-faults, long-plan, none-long}
+use Rattle.listing.proofs.listing.Statement.{statement}
+use Rattle.listing.proofs.listing.Tie as tie
+
+-- places: a file that is too long, and those before it that are not
+abbrev first : tie.After-put-too-long → tie.Then1
+first c = c .before .before .before
+
+abbrev second : tie.After-put-too-long2 → tie.Then2
+second c = c .before .before .before
+
+abbrev third : tie.After-put-too-long3 → tie.Then3
+third c = c .before .before .before
+
+abbrev fourth : tie.After-put-too-long4 → tie.Then4
+fourth c = c .before .before .before
+
+abbrev none : tie.After-put-job → tie.Else4
+none c = c .before .before .before .before .before
+
+returns : tie.Need-returns
+returns c = long-circuit (first c .if1 .taken) (c .put-too-long .ensures)
+
+returns-2 : tie.Need-returns-2
+returns-2 c = long-test (second c .before .if1 .left) (second c .if2 .taken) (c .put-too-long2 .ensures)
+
+returns-3 : tie.Need-returns-3
+returns-3 c = let t = third c in long-faults (t .before .before .if1 .left) (t .before .if2 .left) (t .if3 .taken) (c .put-too-long3 .ensures)
+
+returns-4 : tie.Need-returns-4
+returns-4 c = let t = fourth c in long-plan (t .before .before .before .if1 .left) (t .before .before .if2 .left) (t .before .if3 .left) (t .if4 .taken) (c .put-too-long4 .ensures)
+
+returns-5 : tie.Need-returns-5
+returns-5 c = let t = none c in none-long (t .before .before .before .if1 .left) (t .before .before .if2 .left) (t .before .if3 .left) (t .if4 .left) (c .put-job .ensures)
+
+pub listing-spec : {M : Type 1} → statement M
+listing-spec =
+    tie.close
+    (tie.spec
+    (λ c. search needs)
+    (λ c κs. search needs)
+    returns
+    (λ c. search needs)
+    (λ c κs. search needs)
+    returns-2
+    (λ c. search needs)
+    (λ c κs. search needs)
+    returns-3
+    (λ c. search needs)
+    (λ c κs. search needs)
+    returns-4
+    (λ c κs. search needs)
+    returns-5)
