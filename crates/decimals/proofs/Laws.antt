@@ -1,6 +1,6 @@
 -- Decimal numbers and lines of them, with their lengths; and what is appended to a print.
-use mathlib.Core.Path.{_≡_, refl, sym, ap, _∙_}
-use mathlib.Core.List.{List, [], _∷_, _++_, append-assoc, append-nil}
+use mathlib.Core.Path.{_≡_, refl, ap, _∙_}
+use mathlib.Core.List.{List, [], _∷_, _++_, append-assoc}
 use Prim.Native.Nat.{ℕ, zero, suc, _+_, _*_, _/_, _%_, _^_, _≤_, _<_}
 use native.Mathlib.Omega.{arith}
 use native.Mathlib.Decide.{decLe}
@@ -9,9 +9,8 @@ use native.Mathlib.Nat.{mul-suc, pow-suc}
 use borrow.Author.Tests.{lt-ltb, le-ltb}
 use lib.ListN.{length, take, drop, getD, set, length-append, drop-of-length-le}
 use lib.Seq.{drop-cons, take-suc-set}
-use Rattle.lists.proofs.Scan.{All}
 use Rattle.model.specs.Listing.{digits, decimal, numberLine}
-use Rattle.decimals.specs.Put.{Put}
+use Rattle.decimals.specs.Put.{Below, Put}
 
 -- ---- digits
 digits-enough : (a b n : ℕ) → n < a → n < b → digits a n ≡ digits b n
@@ -64,8 +63,8 @@ module _ (xs : List ℕ) (i : ℕ) where
   length-line-last h = ap length (line-last h) ∙ simp length-append
 
 -- numbers below a power of ten: no more digits than the power has zeros, and one byte behind them
-pub line-short : (w : ℕ) (xs : List ℕ) → 0 < length xs → All (λ n. n < 10 ^ suc w) xs → length (numberLine xs) ≤ suc (suc w) * length xs
-unfolding numberLine All
+pub line-short : (w : ℕ) (xs : List ℕ) → 0 < length xs → Below (10 ^ suc w) xs → length (numberLine xs) ≤ suc (suc w) * length xs
+unfolding numberLine Below
 line-short w [] h a = absurd (let z : ⊥ = omega arith in z)
 line-short w (x ∷ []) h a = omega (arith, length-append (decimal x) (10 ∷ []), decimal-short w x (a .0))
 line-short w (x ∷ y ∷ xs) h a =

@@ -1,12 +1,12 @@
 -- What is read of a file tells whether it is too long, and is the file where it is not.
-use mathlib.Core.Path.{_≡_, refl, sym, ap, _∙_}
+use mathlib.Core.Path.{_≡_, sym, ap, _∙_}
 use mathlib.Core.Bool.{Bool, true, false}
 use mathlib.Core.List.{List}
 use mathlib.Core.Option.{none, some, orElse}
 use Prim.Native.Nat.{ℕ, _≤_}
 use native.Mathlib.Omega.{arith}
 use borrow.Author.Tests.{ltb-false}
-use lib.ListN.{length, take, length-take}
+use lib.ListN.{length, length-take}
 use lib.Seq.{take-all}
 use Rattle.model.specs.Listing.{tooLong, tooLongLine, circuitName, testName, faultsName, planName, printed}
 use Rattle.decimals.specs.Put.{Put}

@@ -2,16 +2,16 @@
 use mathlib.Core.Path.{_≡_}
 use mathlib.Core.Bool.{Bool}
 use mathlib.Core.List.{List, [], _∷_, _++_}
-use Prim.Native.Nat.{ℕ, _+_, _*_, _≤_, _<_}
+use Prim.Native.Nat.{ℕ, _+_, _*_, _≤_}
 use lib.Dec.{ltb}
 use lib.ListN.{length, take}
 use Rattle.lists.specs.Scan.{gather}
 use Rattle.lists.specs.Field.{word16}
-use Rattle.lists.proofs.Scan.{All}
 use Rattle.model.specs.Inputs.{faultAt}
 use Rattle.model.specs.Refusals.{gradeRefusal}
 use Rattle.model.specs.Grade.{eightFields, recordAt, gradeBytes}
 use Rattle.model.specs.Listing.{numberLine, jobLines, printed}
+use Rattle.decimals.specs.Put.{Below}
 use Rattle.listing.specs.declared.Longer.{Longer}
 
 -- of a file: its first 65,536 bytes, and whether there are more
@@ -28,7 +28,7 @@ faultFields fs records groups j =
 -- the same, each of five digits at most
 pub record FieldsOf (fs records groups : List ℕ) (j : ℕ) (fields : List ℕ) : Type 0 where
   pub same : fields ≡ faultFields fs records groups j
-  pub small : All (λ n. n < 100000) fields
+  pub small : Below 100000 fields
 
 -- the lines of the faults below n
 unfoldable pub linesBelow : List ℕ → List ℕ → List ℕ → ℕ → List ℕ

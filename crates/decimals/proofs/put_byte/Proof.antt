@@ -1,4 +1,3 @@
-use lib.ListN.{length-set}
 use borrow.Author.Needs.{needs}
 use Rattle.decimals.proofs.Laws.{put-set}
 use Rattle.decimals.proofs.put_byte.Statement.{statement}

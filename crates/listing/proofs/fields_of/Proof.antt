@@ -1,16 +1,13 @@
-use mathlib.Core.Path.{_≡_}
-use Prim.Native.Nat.{ℕ, _<_}
-use native.Mathlib.Omega.{arith}
 use borrow.Author.Needs.{needs}
-use Rattle.lists.proofs.Scan.{All}
 use Rattle.model.specs.Inputs.{faultAt}
 use Rattle.model.specs.Grade.{eightFields, recordAt}
+use Rattle.decimals.specs.Put.{Below}
 use Rattle.listing.specs.Print.{faultFields}
 use Rattle.listing.proofs.fields_of.Statement.{statement}
 use Rattle.listing.proofs.fields_of.Tie as tie
 
 returns : tie.Need-returns
-unfolding faultFields eightFields recordAt faultAt All
+unfolding faultFields eightFields recordAt faultAt Below
 returns c = record { same = cc; small = search needs }
 
 pub fields-of-spec : {M : Type 1} → statement M

@@ -1,5 +1,5 @@
 -- The lines of the faults below `j` are appended, each of 72 bytes at most.
-use Prim.Native.Nat.{_+_, _*_, _-_, _≤_}
+use Prim.Native.Nat.{_*_, _-_, _≤_}
 use native.Mathlib.Omega.{arith}
 use Rattle.decimals.specs.Put.{Put}
 use Rattle.listing.specs.Print.{linesBelow}

@@ -1,15 +1,15 @@
 use mathlib.Core.List.{[], _∷_}
 use native.Mathlib.Omega.{arith}
 use borrow.Author.Needs.{needs}
-use Rattle.lists.proofs.Scan.{All}
 use Rattle.model.specs.Listing.{refusedLine}
+use Rattle.decimals.specs.Put.{Below}
 use Rattle.decimals.proofs.Laws.{line-short, put-then}
 use Rattle.listing.proofs.put_refused.Statement.{statement}
 use Rattle.listing.proofs.put_refused.Tie as tie
 
 -- neither number has more than twenty digits
 put-line-requires : tie.Need-put-line-requires
-unfolding All
+unfolding Below
 put-line-requires c κs =
     let s = c .before .before .before .before .before .before in
     let rule = c .before .wide in
