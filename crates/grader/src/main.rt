@@ -2,10 +2,10 @@
 // list that cannot be written, has a line on standard error.
 ghost use Prim.Native.Nat.{_≤_};
 ghost use lib.ListN.{length};
-use decimals::Print;
 use libc::STDERR_FILENO;
 use libc::STDOUT_FILENO;
 use listing::Longer;
+use listing::Print;
 
 // The list that stands at the beginning of the print.
 fn write(out: &Print, size: usize)

@@ -6,7 +6,7 @@ ghost use Rattle.model.specs.Inputs.{faultCount};
 ghost use Rattle.model.specs.Listing.{numberLine, refusedLine, tooLongLine, gradedLines};
 ghost use Rattle.decimals.specs.Put.{printRoom, Put};
 ghost use Rattle.listing.specs.Print.{faultFields, FieldsOf, linesBelow, Listable, jobPrint, Printed};
-use decimals::Print;
+pub use decimals::Print;
 use job::Outcome;
 
 // An area that is lent.

@@ -1,5 +1,5 @@
 use borrow.Author.Needs.{needs}
-use Rattle.listing.proofs.Read.{long-circuit, long-test, long-faults, long-plan, none-long}
+use Rattle.listing.proofs.Read.{readPrint, print-of}
 use Rattle.listing.proofs.listing.Statement.{statement}
 use Rattle.listing.proofs.listing.Tie as tie
 
@@ -20,19 +20,28 @@ abbrev none : tie.After-put-job → tie.Else4
 none c = c .before .before .before .before .before
 
 returns : tie.Need-returns
-returns c = long-circuit (first c .if1 .taken) (c .put-too-long .ensures)
+unfolding readPrint
+returns c = print-of (c .put-too-long .ensures) (rw (first c .if1 .taken))
 
 returns-2 : tie.Need-returns-2
-returns-2 c = long-test (second c .before .if1 .left) (second c .if2 .taken) (c .put-too-long2 .ensures)
+unfolding readPrint
+returns-2 c = let t = second c in print-of (c .put-too-long2 .ensures) (rw (t .before .if1 .left, t .if2 .taken))
 
 returns-3 : tie.Need-returns-3
-returns-3 c = let t = third c in long-faults (t .before .before .if1 .left) (t .before .if2 .left) (t .if3 .taken) (c .put-too-long3 .ensures)
+unfolding readPrint
+returns-3 c = let t = third c in print-of (c .put-too-long3 .ensures) (rw (t .before .before .if1 .left, t .before .if2 .left, t .if3 .taken))
 
 returns-4 : tie.Need-returns-4
-returns-4 c = let t = fourth c in long-plan (t .before .before .before .if1 .left) (t .before .before .if2 .left) (t .before .if3 .left) (t .if4 .taken) (c .put-too-long4 .ensures)
+unfolding readPrint
+returns-4 c =
+    let t = fourth c in
+    print-of (c .put-too-long4 .ensures) (rw (t .before .before .before .if1 .left, t .before .before .if2 .left, t .before .if3 .left, t .if4 .taken))
 
 returns-5 : tie.Need-returns-5
-returns-5 c = let t = none c in none-long (t .before .before .before .if1 .left) (t .before .before .if2 .left) (t .before .if3 .left) (t .if4 .left) (c .put-job .ensures)
+unfolding readPrint
+returns-5 c =
+    let t = none c in
+    print-of (c .put-job .ensures) (rw (t .before .before .before .if1 .left, t .before .before .if2 .left, t .before .if3 .left, t .if4 .left))
 
 pub listing-spec : {M : Type 1} → statement M
 listing-spec =
