@@ -4,6 +4,7 @@ ghost use mathlib.Core.Path.{_≡_};
 ghost use mathlib.Core.Bool.{true};
 ghost use Rattle.io.specs.Counts.{Counts};
 ghost use Rattle.printing.specs.Only.{Only};
+use libc::STDERR_FILENO;
 use libc::STDOUT_FILENO;
 
 // The byte that a test program makes its areas of before a call.
@@ -80,6 +81,65 @@ pub fn read(name: &[u8], area: &mut [u8]) -> usize
     let size = io::read_full(fd, area);
     libc::close(fd);
     size
+}
+
+// What was read of a file: so many bytes, and whether there are more behind them; or that it cannot be read.
+pub struct Input {
+    pub size: usize,
+    pub more: bool,
+    pub failed: bool,
+}
+
+// Whether a file that was not opened is there all the same, which standard error then says with the reason.
+fn unopened(name: &[u8]) -> bool {
+    if os::errno() == libc::ENOENT {
+        return false;
+    }
+    os::fail(name);
+    true
+}
+
+// Whether the file was not read as far as it should be, which standard error then says: by what the read of one byte more answered, and
+// whether the area was full before it.
+fn cut_short(name: &[u8], got: isize, full: bool) -> bool {
+    if got < 0 {
+        os::fail(name);
+        return true;
+    }
+    if got == 0 {
+        return false;
+    }
+    if full {
+        return false;
+    }
+    io::write_all(STDERR_FILENO, name);
+    io::write_all(STDERR_FILENO, b": not read to its end\n");
+    true
+}
+
+// Puts the file's bytes at the start of the area, as many as there is room for, and looks for one more. A missing file is empty; one that
+// cannot be read is named on standard error with the reason.
+pub fn read_file(name: &[u8], area: &mut [u8]) -> Input
+    ensures { λ r. ⌜ Counts (r .size) (now (area .exit)) ⌝ }
+{
+    let fd = os::open_read(name);
+    if fd < 0 {
+        return Input {
+            size: 0,
+            more: false,
+            failed: unopened(name),
+        };
+    }
+    let size = io::read_full(fd, area);
+    let mut next = [0u8; 1];
+    let got = libc::read(fd, &mut next);
+    let failed = cut_short(name, got, size == area.len());
+    libc::close(fd);
+    Input {
+        size,
+        more: got > 0,
+        failed,
+    }
 }
 
 // Whether every byte of the area is this one.

@@ -1,0 +1,2 @@
+-- Bytes appended to a print.
+pub mod Put

@@ -1,0 +1,2 @@
+-- Laws of Group.
+pub mod Laws

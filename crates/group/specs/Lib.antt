@@ -1,0 +1,2 @@
+-- Keys of records, and the groups so far.
+pub mod Groups

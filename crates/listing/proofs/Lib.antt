@@ -1,0 +1,5 @@
+-- Laws of the print.
+pub mod Laws
+pub mod Groups
+pub mod Job
+pub mod Read

@@ -1,0 +1,2 @@
+-- What the print is made of, and what is read of the four files.
+pub mod Print

@@ -1,0 +1,172 @@
+// What the program prints, from what it has read of its four files: `too long` and a name, `refused` and two numbers, or a line for each fault.
+ghost use mathlib.Core.Path.{_≡_};
+ghost use Prim.Native.Nat.{_+_, _*_, _<_, _≤_};
+ghost use lib.ListN.{length, take};
+ghost use Rattle.model.specs.Inputs.{faultCount};
+ghost use Rattle.model.specs.Listing.{numberLine, refusedLine, tooLongLine, gradedLines};
+ghost use Rattle.decimals.specs.Put.{printRoom, Put};
+ghost use Rattle.listing.specs.Print.{faultFields, FieldsOf, linesBelow, Listable, jobPrint, Printed};
+pub use decimals::Print;
+use job::Outcome;
+
+// An area that is lent.
+pub type Area = [u8; 65536];
+
+// Which files have bytes behind those that were read.
+pub struct Longer {
+    pub circuit: bool,
+    pub test: bool,
+    pub faults: bool,
+    pub plan: bool,
+}
+
+// Bytes as they are.
+fn put_text(out: &mut Print, from: usize, text: &[u8]) -> usize
+    requires { ⌜ from + length (now text) ≤ printRoom ⌝ }
+    ensures { λ r. ⌜ Put from r (now (text .entry)) (now (out .entry)) (now (out .exit)) ⌝ }
+{
+    let mut at = from;
+    let mut i: usize = 0;
+    while i < text.len() {
+        at = decimals::put_byte(out, at, text[i]);
+        i += 1;
+    }
+    at
+}
+
+// `too long` and the name.
+fn put_too_long(out: &mut Print, name: &[u8]) -> usize
+    requires { ⌜ length (now name) < 100 ⌝ }
+    ensures { λ r. ⌜ Put 0 r (tooLongLine (now (name .entry))) (now (out .entry)) (now (out .exit)) ⌝ }
+{
+    let words = put_text(out, 0, b"too long ");
+    let end = put_text(out, words, name);
+    decimals::put_byte(out, end, b'\n')
+}
+
+// `refused NUMBER POSITION`.
+fn put_refused(out: &mut Print, rule: u8, at: usize) -> usize
+    ensures { λ r. ⌜ Put 0 r (refusedLine rule at) (now (out .entry)) (now (out .exit)) ⌝ }
+{
+    let words = put_text(out, 0, b"refused ");
+    decimals::put_line(out, words, &[basics::wide(rule), at])
+}
+
+// The numbers of fault j's line: line, pin, value, the record's first eight fields, group.
+fn fields_of(faults: &[u8], records: &[u8], groups: &[u8], j: usize) -> [usize; 12]
+    requires { ⌜ (4 * j + 4 ≤ length (now faults)) × (16 * j + 16 ≤ length (now records)) × (2 * j + 2 ≤ length (now groups)) ⌝ }
+    ensures { λ r. ⌜ FieldsOf (now (faults .entry)) (now (records .entry)) (now (groups .entry)) j r ⌝ }
+{
+    let fault = 4 * j;
+    let record = 16 * j;
+    [
+        basics::word_at(faults, fault),
+        basics::wide(faults[fault + 2]),
+        basics::wide(faults[fault + 3]),
+        basics::wide(records[record]),
+        basics::wide(records[record + 1]),
+        basics::word_at(records, record + 2),
+        basics::word_at(records, record + 4),
+        basics::word_at(records, record + 6),
+        basics::word_at(records, record + 8),
+        basics::word_at(records, record + 10),
+        basics::word_at(records, record + 12),
+        basics::word_at(groups, 2 * j),
+    ]
+}
+
+// Fault j's line.
+fn put_fault(
+    faults: &[u8],
+    records: &[u8],
+    groups: &[u8],
+    j: usize,
+    out: &mut Print,
+    at: usize,
+) -> usize
+    requires { ⌜ (4 * j + 4 ≤ length (now faults)) × (16 * j + 16 ≤ length (now records)) × (2 * j + 2 ≤ length (now groups)) × (at + 72 ≤ printRoom) ⌝ }
+    ensures { λ r. ⌜ (Put at r (numberLine (faultFields (now (faults .entry)) (now (records .entry)) (now (groups .entry)) j)) (now (out .entry)) (now (out .exit))) × (r ≤ at + 72) ⌝ }
+{
+    let fields = fields_of(faults, records, groups, j);
+    decimals::put_line(out, at, &fields)
+}
+
+// The lines of all faults.
+fn put_faults(faults: &[u8], records: &[u8], groups: &[u8], count: usize, out: &mut Print) -> usize
+    requires { ⌜ Listable (now faults) (now records) (now groups) count ⌝ }
+    ensures { λ r. ⌜ Put 0 r (linesBelow (now (faults .entry)) (now (records .entry)) (now (groups .entry)) count) (now (out .entry)) (now (out .exit)) ⌝ }
+{
+    let mut at: usize = 0;
+    let mut j: usize = 0;
+    while j < count {
+        at = put_fault(faults, records, groups, j, out, at);
+        j += 1;
+    }
+    at
+}
+
+// The lines of a job that Grade has accepted: its records stand at the beginning of the result area.
+fn put_graded(
+    faults: &[u8],
+    count: usize,
+    result: &Area,
+    groups: &mut Area,
+    out: &mut Print,
+) -> usize
+    requires { ⌜ (count ≡ faultCount (now faults)) × (count ≤ 4096) ⌝ }
+    ensures { λ r. ⌜ Put 0 r (gradedLines (now (faults .entry)) (take (16 * count) (now (result .entry)))) (now (out .entry)) (now (out .exit)) ⌝ }
+{
+    let area = &result[..];
+    let end = 16 * count;
+    let records = &area[..end];
+    group::group(records, groups);
+    put_faults(faults, records, groups, count, out)
+}
+
+// The lines of a job.
+fn put_job(
+    circuit: &[u8],
+    test: &[u8],
+    faults: &[u8],
+    plan: &[u8],
+    work: &mut Area,
+    result: &mut Area,
+    groups: &mut Area,
+    out: &mut Print,
+) -> usize
+    ensures { λ r. ⌜ Put 0 r (jobPrint (now (circuit .entry)) (now (test .entry)) (now (faults .entry)) (now (plan .entry))) (now (out .entry)) (now (out .exit)) ⌝ }
+{
+    match grade::grade(circuit, test, faults, plan, 6, work, result) {
+        Outcome::Refused { rule, at } => put_refused(out, rule, at),
+        Outcome::Done(count) => put_graded(faults, count, result, groups, out),
+    }
+}
+
+// What the program prints; see README.md, The program.
+pub fn listing(
+    circuit: &[u8],
+    test: &[u8],
+    faults: &[u8],
+    plan: &[u8],
+    longer: Longer,
+    work: &mut Area,
+    result: &mut Area,
+    groups: &mut Area,
+    out: &mut Print,
+) -> usize
+    ensures { λ r. ⌜ Printed (now (circuit .entry)) (now (test .entry)) (now (faults .entry)) (now (plan .entry)) longer r (now (out .exit)) ⌝ }
+{
+    if longer.circuit {
+        return put_too_long(out, b"circuit.dat");
+    }
+    if longer.test {
+        return put_too_long(out, b"test.dat");
+    }
+    if longer.faults {
+        return put_too_long(out, b"faults.dat");
+    }
+    if longer.plan {
+        return put_too_long(out, b"plan.dat");
+    }
+    put_job(circuit, test, faults, plan, work, result, groups, out)
+}
