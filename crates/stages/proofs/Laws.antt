@@ -93,7 +93,7 @@ else-last none b e = e
 else-last (some v) b e = cc
 
 -- stage 4 gives no verdict where stages 1 to 4 give none
-last-none : (c t : List ℕ) (f : Fault) → beforeStage5 c t f ≡ none → stage4 c t f ≡ none
+pub last-none : (c t : List ℕ) (f : Fault) → beforeStage5 c t f ≡ none → stage4 c t f ≡ none
 unfolding beforeStage5
 last-none c t f e = else-last (stage3 c t f) _ (else-last (stage2 c t f) _ (else-last (stage1 c t f) _ e))
 

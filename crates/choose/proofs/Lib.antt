@@ -1,0 +1,2 @@
+-- Laws of Choose.
+pub mod Laws

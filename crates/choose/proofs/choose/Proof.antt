@@ -1,0 +1,61 @@
+use mathlib.Core.Path.{_≡_, sym, _∙_}
+use mathlib.Core.Option.{none}
+use lib.ListN.{length}
+use Rattle.model.specs.Refusals.{chooseRefusal}
+use Rattle.model.specs.Choose.{chooseAnswer, chooseArea}
+use Rattle.model.proofs.Accepted.{chooseReady, answer-done, answer-refused, area-done, area-refused}
+use Rattle.model.proofs.Theorems.{chosen-well}
+use Rattle.job.specs.Job.{answerOf}
+use Rattle.job.proofs.Laws.{ready-none, broken-some}
+use borrow.Author.Needs.{needs}
+use Rattle.choose.proofs.choose.Statement.{statement}
+use Rattle.choose.proofs.choose.Tie as tie
+
+-- places
+abbrev checked : tie.After-job → tie.After-check-choose
+checked c = c .before .before
+
+abbrev case : tie.After-choose-job-arg2 → tie.After-job
+case c = c .before .before .before
+
+abbrev ran : tie.After-slice-known4 → tie.After-choose-job
+ran c = c .before .before .before .before
+
+abbrev start : tie.After-check-choose → tie.Start
+start c = c .before .before .before .before .before .before
+
+-- no row is broken
+passed : (c : tie.After-job) → let s = start (checked c) .args in
+    chooseRefusal (s .circuit .now) (s .test .now) (s .faults .now) (s .k) (length (s .work .now)) (length (s .result .now)) ≡ none
+passed c = ready-none (checked c .check-choose .ensures) (c .job .given .1)
+
+choose-job-requires : tie.Need-choose-job-requires
+choose-job-requires c κs = (chooseReady _ _ _ _ _ _ (passed (case c)), checked (case c) .check-choose .ensures .job _ (case c .job .given .1))
+
+returns : tie.Need-returns
+unfolding answerOf chooseAnswer chooseArea
+returns c =
+    let check = c .before .before .before in
+    let broken = broken-some (check .check-choose .ensures) (c .before .rule .given .1) in
+    (sym (answer-refused _ _ _ broken), (sym (area-refused _ _ _ _ broken), (sym (area-refused _ _ _ _ broken), λ e. chosen-well _ _ _ _ _ _ e)))
+
+returns-2 : tie.Need-returns-2
+unfolding answerOf chooseAnswer chooseArea
+returns-2 c =
+    let job = case (ran c .before) in
+    let none = passed job in
+    let written = ran c .choose-job .ensures in
+    (rw (written .count) (sym (answer-done _ _ none)), (written .area ∙ sym (area-done _ _ _ none), (sym (area-done _ _ _ none), λ e. chosen-well _ _ _ _ _ _ e)))
+
+pub choose-spec : {M : Type 1} → statement M
+choose-spec =
+    tie.close
+    (tie.spec
+    (λ c κs. search needs)
+    (λ c. search needs)
+    (λ c. search needs)
+    choose-job-requires
+    returns
+    (λ c. search needs)
+    (λ c. search needs)
+    returns-2)

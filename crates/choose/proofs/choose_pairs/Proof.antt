@@ -1,0 +1,112 @@
+use mathlib.Core.Path.{_≡_, ap, _∙_}
+use Prim.Native.Nat.{_+_, _*_, _<_, _≤_}
+use native.Mathlib.Omega.{arith}
+use native.Mathlib.Nat.{mul-le-mul, mul-le-mul-left, mul-le-mul-right, mul-comm}
+use lib.ListN.{length}
+use Rattle.model.specs.Inputs.{F, O, L}
+use Rattle.job.proofs.Laws.{response-size}
+use Rattle.choose.specs.Choose.{reachOf}
+use Rattle.choose.proofs.Laws.{reach-some, reach-most, picking, at-most}
+use borrow.Author.Needs.{needs}
+use Rattle.choose.proofs.choose_pairs.Statement.{statement}
+use Rattle.choose.proofs.choose_pairs.Tie as tie
+
+-- places
+abbrev start : tie.After-copy-row → tie.Start
+start c = c .before .before .before .before .before .before .before .before .before .before .before
+
+abbrev reach : tie.After-set-merits → tie.After-reached
+reach c = c .before .before .before .before
+
+abbrev begin : tie.After-reached → tie.Start
+begin c = start (c .before)
+
+abbrev merited : tie.After-weigh-all → tie.After-set-merits
+merited c = c .before .before .before .before .before .before .before .before .before .before .before
+
+abbrev weighed : tie.After-pick-pairs → tie.After-work
+weighed c = c .before .before .before .before .before .before .before .before .before .before .before .before .before
+
+-- so many units may have a pair
+units : (c : tie.After-reached) → let a = begin c .args in c .reached .result ≡ reachOf (L (a .c .now) (a .t .now)) (a .left)
+units c = c .reached .ensures ∙ ap (λ n. reachOf n (begin c .args .left)) (begin c .pre .0 .sizes .units)
+
+few : (c : tie.After-reached) → let a = begin c .args in c .reached .result ≤ L (a .c .now) (a .t .now)
+few c = reach-most _ _ _ (units c)
+
+-- room for their entries
+entry-room : (c : tie.After-reached) → let a = begin c .args in 4 * (F (a .c .now) * c .reached .result) ≤ length (a .work .now)
+entry-room c =
+    let s = begin c in
+    let cs = s .args .c .now in
+    omega (arith, s .pre .3, mul-le-mul-left (F cs) (few c), mul-comm (F cs) (L cs (s .args .t .now)))
+
+mul-copy-row : tie.Need-mul-copy-row
+mul-copy-row c =
+    let s = c .before .before .before .before .before .before .before .before .before in
+    let g = s .pre .0 in
+    omega (arith, response-size (g .sizes), mul-le-mul (g .test .most) (g .circuit .outputs))
+
+copy-row-requires : tie.Need-copy-row-requires
+copy-row-requires c κs =
+    let s = c .before .before .before .before .before .before .before .before .before .before in
+    let g = s .pre .0 in (
+      omega (arith, response-size (g .sizes), s .pre .2),
+      omega (arith, response-size (g .sizes), mul-le-mul (g .test .most) (g .circuit .outputs), c .copy-row-arg2 .given .0 .1),
+    )
+
+set-merits-requires : tie.Need-set-merits-requires
+set-merits-requires c κs =
+    let at = c .before .before .before in
+    let s = begin at in
+    let g = s .pre .0 in
+    let few-units = few at in (
+      omega (arith, few-units, g .test .most),
+      omega (arith, g .sizes .flops, g .circuit .flipFlops),
+      rw (g .sizes .flops) (omega (arith, mul-le-mul few-units (g .circuit .flipFlops), mul-le-mul-right (F (s .args .c .now)) few-units, mul-le-mul (g .test .most) (g .circuit .flipFlops), c .before .before .set-merits-arg .given .0)),
+      omega (arith, few-units, g .test .most, c .before .set-merits-arg2 .given .0),
+      omega (arith, few-units, g .test .most, c .set-merits-arg3 .given .0 .1),
+      at-most _ _ _ _ few-units (s .pre .5),
+    )
+
+weigh-all-requires : tie.Need-weigh-all-requires
+weigh-all-requires c κs =
+    let at = reach (c .before .before .before .before .before .before .before .before .before .before) in
+    let s = begin at in
+    (s .pre .0, reach-some _ _ _ (units at) (s .pre .0 .test .some), few at, entry-room at)
+
+pick-pairs-requires : tie.Need-pick-pairs-requires
+pick-pairs-requires c κs =
+    let work = c .before .before .before .before .before .before .before .before .before .before .before .before in
+    let merits = merited (work .before) in
+    let at = reach merits in
+    let s = begin at in
+    (s .pre .0, few at, s .pre .1, omega (arith, entry-room at, work .work .given), s .pre .4, merits .set-merits .ensures .small)
+
+returns : tie.Need-returns
+returns c = record {
+  records = λ f ready three nouts.
+      let pick = c .before .before .before .before in
+      let work = weighed pick in
+      let merits = merited (work .before) in
+      let at = reach merits in
+      let copy = at .before in
+      let s = start copy in
+      let g = s .pre .0 in
+      let p = picking (units at) (g .sizes .flops) (merits .set-merits .ensures) f _ _ _ ready three nouts (copy .copy-row .ensures) (response-size (g .sizes)) (omega (arith, response-size (g .sizes), s .pre .2)) in
+      pick .pick-pairs .ensures .records f p (work .before .weigh-all .ensures .first f p _ _);
+}
+
+pub choose-pairs-spec : {M : Type 1} → statement M
+choose-pairs-spec =
+    tie.close
+    (tie.spec
+    mul-copy-row
+    copy-row-requires
+    (λ c κs. tt)
+    set-merits-requires
+    weigh-all-requires
+    pick-pairs-requires
+    (λ c. c .before .before .before .work2 .given ∙ weighed (c .before .before .before .before) .work .given)
+    (λ c. c .before .result .given)
+    returns)

@@ -1,0 +1,58 @@
+-- Picking pairs: one after another, each the best of those that stage 5 would take next.
+use mathlib.Core.Path.{_≡_}
+use mathlib.Core.Bool.{cond}
+use mathlib.Core.List.{List}
+use Prim.Native.Nat.{ℕ, _+_, _*_, _<_, _≤_}
+use lib.Dec.{ltb}
+use lib.ListN.{getD, length}
+use Rattle.lists.specs.Field.{overwritten}
+use Rattle.model.specs.Inputs.{F, L, Fault}
+use Rattle.model.specs.Accepted.{ThreeValued}
+use Rattle.model.specs.Expansion.{nout, stateRow}
+use Rattle.model.specs.Choose.{bestPairs, planBytes}
+use Rattle.sequences.specs.Ends.{Taken}
+use Rattle.take.specs.Take.{Prepared}
+use Rattle.best.specs.Weights.{Weighed}
+use Rattle.best.specs.Best.{Merits}
+use Rattle.weigh.specs.Weigh.{Entries}
+
+-- So many units may have a pair that is taken: the first, and those behind a unit with Nout above 0.
+unfoldable pub reachOf : ℕ → ℕ → ℕ
+reachOf units left = cond (ltb left units) (left + 1) units
+
+-- What picking asks for, of the fault that all lanes have: what stage 5 does, a state list of 0, 1 and X, and the merits of the units.
+pub record Picking (c t : List ℕ) (f : Fault) (free states list hits masks merits : List ℕ) (left reach : ℕ) : Type 0 where
+  pub ready : Prepared c t free states list hits masks left f
+  pub three : (u : ℕ) → u < L c t → ThreeValued (stateRow c t f u)
+  pub units : reach ≡ reachOf (L c t) left
+  pub worth : Merits c t f reach merits
+
+-- m pairs are picked: their units and extras, the table of the pairs that could be taken behind them if there is to be one more, and the records
+pub record PickedTo (c t : List ℕ) (f : Fault) (reach m k : ℕ) (times extras table old area : List ℕ) : Type 0 where
+  pub taken : Taken c t f (bestPairs c t f m) m times extras
+  pub weighed : m < k → Weighed c t f (bestPairs c t f m) 0 (F c * reach) table
+  pub records : area ≡ overwritten (planBytes (bestPairs c t f m)) old
+
+-- the table is weighed for the first pick
+pub record AllWeighed (c t free states list hits masks merits : List ℕ) (left reach : ℕ) (times extras table : List ℕ) : Type 0 where
+  pub first : (f : Fault) → Picking c t f free states list hits masks merits left reach → (k : ℕ) (area : List ℕ) → PickedTo c t f reach 0 k times extras table area area
+
+-- after a pick at unit u, the entries of that unit again, if there is to be one more
+pub record WeighedAgain (c t free states list hits masks merits : List ℕ) (left reach u m k : ℕ) (times extras table extras′ table′ : List ℕ) : Type 0 where
+  pub entries : m < k → (f : Fault) (pairs : List (ℕ × ℕ)) → Picking c t f free states list hits masks merits left reach → Taken c t f pairs m times extras
+      → Entries c t f pairs m times (F c * u) (F c * u + F c) table extras′ table′
+  pub taken : (f : Fault) (pairs : List (ℕ × ℕ)) → k ≤ m → Taken c t f pairs m times extras → Taken c t f pairs m times extras′
+
+-- so many pairs, as plan records
+pub record Records (pairs : List (ℕ × ℕ)) (old new : List ℕ) (r : ℕ) : Type 0 where
+  pub count : r ≡ length pairs
+  pub area : new ≡ overwritten (planBytes pairs) old
+
+-- all picks
+pub record AllPicked (c t free states list hits masks merits : List ℕ) (left reach k : ℕ) (times extras table old new : List ℕ) (r : ℕ) : Type 0 where
+  pub records : (f : Fault) → Picking c t f free states list hits masks merits left reach → PickedTo c t f reach 0 k times extras table old old → Records (bestPairs c t f k) old new r
+
+-- all picks of a fault that stages 1 to 4 leave open
+pub record ChosenFrom (c t free states list hits masks counts : List ℕ) (left k : ℕ) (old new : List ℕ) (r : ℕ) : Type 0 where
+  pub records : (f : Fault) → Prepared c t free states list hits masks left f → ((u : ℕ) → u < L c t → ThreeValued (stateRow c t f u)) → ((u : ℕ) → u ≤ L c t → getD counts u 0 ≡ nout c t f u)
+      → Records (bestPairs c t f k) old new r

@@ -1,0 +1,2 @@
+-- What picking pairs asks for and gives.
+pub mod Choose
