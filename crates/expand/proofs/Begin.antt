@@ -1,26 +1,25 @@
 -- Where the walk begins, which pairs it tries, and that it may stop.
 use mathlib.Core.Path.{_≡_, refl, sym, ap, _∙_}
-use mathlib.Core.Bool.{Bool, true, false, cond, _&&_, and-false, and-true}
+use mathlib.Core.Bool.{false, cond, _&&_, and-false, and-true}
 use mathlib.Core.List.{List}
 use Prim.Native.Nat.{ℕ, zero, suc, _+_, _*_, _-_, _/_, _%_, _<_, _≤_}
 use native.Mathlib.Omega.{arith}
 use native.Mathlib.Decide.{decLe}
 use native.Mathlib.Nat.{mul-suc, mul-comm, mul-le-mul-left}
-use lib.Dec.{eqb, leb, ltb}
+use lib.Dec.{eqb, ltb}
 use lib.ListN.{getD, length, take}
 use borrow.Author.Tests.{le-leb, lt-leb, lt-ltb, le-ltb}
 use Rattle.lists.specs.Field.{overwritten, rowOf, Rows}
 use Rattle.lists.proofs.Field.{row-fits}
-use Rattle.lists.proofs.Tests.{by-test}
 use Rattle.model.specs.Inputs.{F, L, Fault}
-use Rattle.model.specs.Accepted.{ValidTest, ValidFault, ThreeValued}
+use Rattle.model.specs.Accepted.{ValidTest, ValidFault}
 use Rattle.model.specs.Values.{X}
 use Rattle.model.specs.Simulation.{plainState, powerUp}
 use Rattle.model.specs.Expansion.{nout, tried, rowAfter}
 use Rattle.model.proofs.ThreeValued.{stateAt-three, powerUp-three}
 use Rattle.pending.specs.Pending.{OpenUnits}
 use Rattle.expand.specs.declared.Walk.{Walk}
-use Rattle.expand.specs.Expand.{isX, bothAt, writesAt, rowTo, TriedTo, Walked}
+use Rattle.expand.specs.Expand.{isX, rowTo, TriedTo, Walked}
 use Rattle.expand.proofs.Place.{position, place-below, unit-inside, first-unit, table-at, row-copied}
 use Rattle.expand.proofs.Steps.{untried-both, untried-written}
 use Rattle.expand.proofs.Turn.{turn-nothing}

@@ -1,5 +1,5 @@
 -- What the walk says of stages 3 and 4, once it stands behind the last pair.
-use mathlib.Core.Path.{_≡_, refl, sym, ap, _∙_}
+use mathlib.Core.Path.{_≡_, refl, _∙_}
 use mathlib.Core.Bool.{Bool, true, false}
 use mathlib.Core.List.{List}
 use mathlib.Core.Option.{none, some, orElse}
@@ -7,14 +7,13 @@ use Prim.Native.Nat.{ℕ, zero, suc, _+_, _*_, _/_, _%_, _<_, _≤_}
 use native.Mathlib.Omega.{arith}
 use native.Mathlib.Decide.{decLe}
 use native.Mathlib.Nat.{mul-suc, mul-comm, mul-le-mul-left}
-use lib.Dec.{leb}
 use borrow.Author.Tests.{le-leb}
-use Rattle.lists.specs.Scan.{_else_, first, pairWith, firstPair}
+use Rattle.lists.specs.Scan.{pairWith, firstPair}
 use Rattle.lists.specs.Field.{Rows}
 use Rattle.lists.proofs.Field.{row-fits}
-use Rattle.lists.proofs.Scan.{first-fails, first-lowest, Lowest}
+use Rattle.lists.proofs.Scan.{first-fails, first-lowest}
 use Rattle.model.specs.Inputs.{flipFlopLine, F, L, Fault}
-use Rattle.model.specs.Expansion.{bothMarked, opposedWrite, rowAfter, stateRow}
+use Rattle.model.specs.Expansion.{bothMarked, opposedWrite, stateRow}
 use Rattle.model.specs.Grade.{placed, atPair, stage3, stage4}
 use Rattle.expand.specs.declared.Walk.{Walk}
 use Rattle.expand.specs.Expand.{bothAt, writesAt, rowTo, Walked}

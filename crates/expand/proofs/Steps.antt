@@ -1,20 +1,18 @@
 -- One position of the walk: what its pair writes, and where the walk then stands.
-use mathlib.Core.Path.{_≡_, refl, sym, ap, _∙_}
-use mathlib.Core.Bool.{Bool, true, false, cond, not, _&&_, and-false}
+use mathlib.Core.Path.{_≡_, ap}
+use mathlib.Core.Bool.{Bool, true, false, _&&_, and-false}
 use mathlib.Core.List.{List}
 use Prim.Native.Nat.{ℕ, suc, _+_, _*_, _-_, _/_, _%_, _<_, _≤_}
 use native.Mathlib.Omega.{arith}
 use native.Mathlib.Decide.{decLe}
 use native.Mathlib.Nat.{mul-suc, mul-le-mul-left}
-use lib.Dec.{eqb, leb}
 use borrow.Author.Tests.{le-leb, lt-leb}
 use Rattle.lists.specs.Field.{Rows}
-use Rattle.lists.proofs.Tests.{by-eq}
 use Rattle.model.specs.Inputs.{F, L, Fault}
 use Rattle.model.specs.Accepted.{ThreeValued}
-use Rattle.model.specs.Values.{invert, giveRow, someOppose}
+use Rattle.model.specs.Values.{invert, giveRow}
 use Rattle.model.specs.Implication.{nothing, marked, extra}
-use Rattle.model.specs.Expansion.{tried, bothMarked, alone, written, rowAfter, opposedWrite}
+use Rattle.model.specs.Expansion.{tried, bothMarked, alone, written, rowAfter}
 use Rattle.expand.specs.declared.Walk.{Walk}
 use Rattle.expand.specs.Expand.{bothAt, writesAt, rowTo, Walked}
 use Rattle.expand.proofs.Place.{position, place-below}

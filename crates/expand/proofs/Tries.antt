@@ -1,15 +1,15 @@
 -- A word that is filled and tried. Its pairs are those whose bit is X in one table, the plain states or the state list; each is tried in its plain
 -- state.
-use mathlib.Core.Path.{_≡_, refl, sym, ap, _∙_}
+use mathlib.Core.Path.{_≡_, sym, ap, _∙_}
 use mathlib.Core.Bool.{true, false}
 use mathlib.Core.List.{List}
 use Prim.Native.Nat.{ℕ, suc, _+_, _*_, _-_, _/_, _%_, _<_, _≤_}
 use native.Mathlib.Omega.{arith}
 use lib.ListN.{getD, length}
-use Rattle.lists.specs.Field.{rowOf, Rows}
+use Rattle.lists.specs.Field.{Rows}
 use Rattle.lists.proofs.Field.{row-fits}
 use Rattle.model.specs.Inputs.{N, F, O, L, Fault}
-use Rattle.model.specs.Accepted.{ValidTest, ValidFault}
+use Rattle.model.specs.Accepted.{ValidTest}
 use Rattle.model.specs.Simulation.{nextState, plainState, freeOutputs}
 use Rattle.model.specs.Implication.{impliedAt, marked}
 use Rattle.lanes.specs.Lane.{bit, Lane}

@@ -1,11 +1,10 @@
 -- One pair of a word is settled: the walk stands one position further.
 use mathlib.Core.Path.{_≡_, refl, sym, ap, _∙_}
-use mathlib.Core.Bool.{Bool, true, false, cond}
+use mathlib.Core.Bool.{true, false, cond}
 use mathlib.Core.List.{List, _++_}
-use Prim.Native.Nat.{ℕ, zero, suc, _+_, _*_, _-_, _/_, _%_, _<_, _≤_}
+use Prim.Native.Nat.{ℕ, zero, _+_, _*_, _-_, _/_, _%_, _<_, _≤_}
 use native.Mathlib.Omega.{arith}
 use native.Mathlib.Decide.{decLe}
-use native.Mathlib.Nat.{le-div-iff-mul-le}
 use lib.Dec.{eqb}
 use lib.ListN.{getD, length, take, drop, length-drop}
 use lib.Seq.{length-take-le}
@@ -16,7 +15,7 @@ use Rattle.lists.proofs.Table.{row-written}
 use Rattle.lists.proofs.Tests.{by-test, by-eq}
 use Rattle.model.specs.Inputs.{F, L, Fault}
 use Rattle.model.specs.Accepted.{ThreeValued}
-use Rattle.model.specs.Values.{X, giveRow, someOppose}
+use Rattle.model.specs.Values.{giveRow, someOppose}
 use Rattle.model.specs.Simulation.{nextState, plainState}
 use Rattle.model.specs.Implication.{nothing, whereX, impliedAt, marked, extra}
 use Rattle.model.specs.Expansion.{tried, bothMarked, written, rowAfter, opposedWrite}

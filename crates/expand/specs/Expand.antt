@@ -2,7 +2,7 @@
 use mathlib.Core.Path.{_≡_}
 use mathlib.Core.Bool.{Bool, true, false, cond}
 use mathlib.Core.List.{List, _++_}
-use Prim.Native.Nat.{ℕ, suc, _+_, _*_, _-_, _/_, _%_, _<_, _≤_}
+use Prim.Native.Nat.{ℕ, _+_, _*_, _-_, _/_, _%_, _<_, _≤_}
 use lib.Dec.{eqb, leb}
 use lib.ListN.{getD, length, take, drop}
 use Rattle.lists.specs.Scan.{countBelow}
@@ -12,11 +12,10 @@ use Rattle.model.specs.Accepted.{ValidTest, ValidFault, ThreeValued}
 use Rattle.model.specs.Values.{X, giveRow, someOppose}
 use Rattle.model.specs.Simulation.{nextState, plainState, freeOutputs}
 use Rattle.model.specs.Implication.{whereX, impliedAt, marked}
-use Rattle.model.specs.Expansion.{tried, bothMarked, opposedWrite, rowAfter, stateRow}
+use Rattle.model.specs.Expansion.{tried, bothMarked, opposedWrite, rowAfter}
 use Rattle.lanes.specs.Lane.{bit, Lane}
 use Rattle.unit.specs.Unit.{Stuck}
 use Rattle.pending.specs.Pending.{OpenUnits}
-use Rattle.expand.specs.declared.Batch.{Batch}
 use Rattle.expand.specs.declared.Walk.{Walk}
 
 -- ---- pairs that a word tries: bits of the table of states that are X

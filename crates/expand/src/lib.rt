@@ -1,7 +1,7 @@
 // Stages 3 and 4: a walk over the pairs of a time unit and a flip-flop, a word of up to 32 pairs after another. A pair with both values marked ends
 // it; where one is marked, the other's extra is written into the state list. The first write that opposes is remembered until the walk has
 // ended, for stage 3 speaks first.
-ghost use mathlib.Core.Bool.{true, false, cond};
+ghost use mathlib.Core.Bool.{true, cond};
 ghost use mathlib.Core.List.{List};
 ghost use mathlib.Core.Path.{_≡_};
 ghost use Prim.Native.Nat.{ℕ, _+_, _*_, _-_, _/_, _%_, _<_, _≤_};

@@ -9,7 +9,6 @@ use Rattle.lists.specs.Field.{rowOf, Rows}
 use Rattle.lists.proofs.Field.{part-taken}
 use Rattle.lists.proofs.Tests.{by-test, cond-cases}
 use Rattle.model.specs.Inputs.{N, F, O, L, Fault}
-use Rattle.model.specs.Accepted.{ThreeValued}
 use Rattle.model.specs.Values.{X}
 use Rattle.model.specs.Simulation.{nextState, plainState, freeOutputs}
 use Rattle.model.specs.Implication.{nothing, whereX, impliedAt, marked, extra}

@@ -7,7 +7,7 @@ ghost use lib.Dec.{eqb};
 ghost use lib.ListN.{length, getD, set, replicate};
 ghost use Rattle.model.specs.Inputs.{F, O, L, planCount};
 ghost use Rattle.model.specs.Values.{X};
-ghost use Rattle.lanes.specs.Lane.{bit, Room};
+ghost use Rattle.lanes.specs.Lane.{Room};
 ghost use Rattle.run.specs.Run.{Runnable};
 ghost use Rattle.take.specs.Take.{mayTake, withPair, meetsRow, LaneExtra, PairMade, Touched, PairTaken, AllTaken};
 use job::Job;

@@ -5,7 +5,7 @@ use mathlib.Core.List.{List, _++_}
 use Prim.Native.Nat.{ℕ, zero, suc, _+_, _*_, _-_, _/_, _%_, _<_, _≤_, min, max}
 use native.Mathlib.Omega.{arith}
 use native.Mathlib.Decide.{decLe}
-use lib.Dec.{eqb, leb, ltb}
+use lib.Dec.{eqb, ltb}
 use lib.ListN.{getD, length, take, drop}
 use lib.Seq.{getD-take, getD-drop}
 use borrow.Author.Tests.{eq-eqb, ne-eqb, eqb-true, eqb-false, lt-ltb, le-leb, lt-leb}
@@ -20,7 +20,7 @@ use Rattle.model.specs.Implication.{extra}
 use Rattle.model.specs.Expansion.{rowAfter, stateRow}
 use Rattle.rows.proofs.Laws.{length-giveRow}
 use Rattle.trial.proofs.Laws.{state-size}
-use Rattle.model.specs.Sequences.{outputsLeft, touches, takes}
+use Rattle.model.specs.Sequences.{touches, takes}
 use Rattle.model.specs.Choose.{size, smallerExtra, largerExtra}
 use Rattle.lanes.specs.Lane.{Lane}
 use Rattle.unit.specs.Unit.{Stuck}
@@ -33,7 +33,7 @@ use Rattle.take.specs.Take.{withRow, withPair, LaneExtra}
 use Rattle.take.proofs.Table.{row-with, lent-row}
 use Rattle.take.proofs.Extras.{Says, lanes-made}
 use Rattle.take.proofs.Taken.{low-row, high-row, taken-kept}
-use Rattle.best.specs.Weights.{weightBytes, entryOf, Weighed}
+use Rattle.best.specs.Weights.{weightBytes, entryOf}
 use Rattle.weigh.specs.Weigh.{Candidate, EntryMade, Weighing, EntryAt, Entries}
 
 -- ---- what stage 5 would take

@@ -6,7 +6,7 @@ ghost use mathlib.Core.Bool.{true};
 ghost use Prim.Native.Nat.{_+_, _*_, _/_, _<_, _≤_, min, max};
 ghost use lib.ListN.{length};
 ghost use Rattle.lists.specs.Field.{rowOf};
-ghost use Rattle.model.specs.Inputs.{F, O, L};
+ghost use Rattle.model.specs.Inputs.{F, L};
 ghost use Rattle.model.specs.Choose.{size};
 ghost use Rattle.expand.specs.Expand.{isX, pairAt};
 ghost use Rattle.stages.specs.Stages.{Tabled};

@@ -1,8 +1,8 @@
-use mathlib.Core.Path.{_≡_, sym, ap, _∙_}
-use Prim.Native.Nat.{_+_, _*_, _<_, _≤_}
+use mathlib.Core.Path.{_≡_, sym, _∙_}
+use Prim.Native.Nat.{_*_, _<_, _≤_}
 use native.Mathlib.Omega.{arith}
 use native.Mathlib.Nat.{mul-le-mul}
-use Rattle.model.specs.Inputs.{F, L, Fault, faultAt}
+use Rattle.model.specs.Inputs.{F, L, faultAt}
 use Rattle.model.proofs.Apart.{list-three}
 use Rattle.model.proofs.Choose.{chosen-undecided, chosen-decided}
 use Rattle.expand.proofs.Begin.{product-as}

@@ -1,17 +1,14 @@
 -- The walk stands at position `at`: all pairs before it are settled.
-use mathlib.Core.Path.{_≡_, refl, sym, ap, _∙_}
-use mathlib.Core.List.{List}
-use Prim.Native.Nat.{ℕ, _+_, _*_, _-_, _<_, _≤_}
+use mathlib.Core.Path.{_≡_, refl, _∙_}
+use Prim.Native.Nat.{_*_, _-_, _<_, _≤_}
 use native.Mathlib.Omega.{arith}
-use native.Mathlib.Nat.{mul-le-mul, mul-comm}
+use native.Mathlib.Nat.{mul-le-mul}
 use lib.ListN.{length}
-use Rattle.lists.proofs.Field.{row-fits}
 use Rattle.model.specs.Inputs.{F, L, Fault}
-use Rattle.run.proofs.Laws.{next-asked, runnable-again}
+use Rattle.run.proofs.Laws.{runnable-again}
 use Rattle.expand.specs.Expand.{Ready, TriedTo, Walked}
 use Rattle.expand.proofs.Begin.{end-bounds, end-as, product-as, factor-some, tried-to, walk-begun, walk-met, walk-last}
 use Rattle.expand.proofs.Tries.{pairs-as, room-as, settling-of}
-use borrow.Author.Needs.{needs}
 use Rattle.expand.proofs.expand.Statement.{statement}
 use Rattle.expand.proofs.expand.Tie as tie
 

@@ -1,12 +1,10 @@
 -- The positions from `at` to e are in the word, those of them whose bits are X.
-use mathlib.Core.Path.{_≡_, refl, sym, ap, _∙_}
+use mathlib.Core.Path.{_≡_, refl, _∙_}
 use Prim.Native.Nat.{_-_, _<_, _≤_}
 use native.Mathlib.Omega.{arith}
-use native.Mathlib.Decide.{decLe}
 use lib.ListN.{length}
 use Rattle.expand.specs.Expand.{Filled}
-use Rattle.expand.proofs.Word.{pair-none, filled-none, filled-turn, begun}
-use borrow.Author.Needs.{needs}
+use Rattle.expand.proofs.Word.{filled-none, filled-turn, begun}
 use Rattle.expand.proofs.fill.Statement.{statement}
 use Rattle.expand.proofs.fill.Tie as tie
 

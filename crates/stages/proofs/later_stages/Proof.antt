@@ -2,8 +2,7 @@ use mathlib.Core.Path.{_≡_, sym, _∙_}
 use Prim.Native.Nat.{_*_}
 use native.Mathlib.Omega.{arith}
 use native.Mathlib.Nat.{mul-le-mul}
-use Rattle.model.specs.Inputs.{F, L, Fault}
-use Rattle.model.specs.Accepted.{ValidFault}
+use Rattle.model.specs.Inputs.{F, L}
 use Rattle.expand.proofs.Begin.{product-as, factor-some}
 use Rattle.stages.proofs.Laws.{flops-room, pair-named, graded-before}
 use borrow.Author.Needs.{needs}

@@ -1,4 +1,3 @@
-use native.Mathlib.Omega.{arith}
 use Rattle.lists.proofs.Field.{part-long}
 use Rattle.weigh.proofs.Laws.{sized}
 use borrow.Author.Needs.{needs}

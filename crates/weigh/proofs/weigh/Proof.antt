@@ -1,11 +1,11 @@
 -- The entries from `from` to `at` are written.
-use mathlib.Core.Path.{_≡_, refl, sym, _∙_}
+use mathlib.Core.Path.{_≡_, refl, _∙_}
 use mathlib.Core.List.{List}
-use Prim.Native.Nat.{ℕ, _+_, _*_, _-_, _<_, _≤_}
+use Prim.Native.Nat.{ℕ, _*_, _-_, _<_, _≤_}
 use native.Mathlib.Omega.{arith}
 use native.Mathlib.Nat.{mul-le-mul, mul-le-mul-right}
 use lib.ListN.{length}
-use Rattle.model.specs.Inputs.{F, O, L, Fault}
+use Rattle.model.specs.Inputs.{F, L, Fault}
 use Rattle.expand.proofs.Begin.{product-as, factor-some}
 use Rattle.expand.proofs.Tries.{pairs-as}
 use Rattle.take.specs.Take.{Prepared}

@@ -1,2 +1,2 @@
 -- What picking pairs asks for and gives.
-pub mod Choose
+pub mod Pick

@@ -1,21 +1,19 @@
 -- m pairs are picked and written, and the table is weighed for the next.
-use mathlib.Core.Path.{_≡_, refl, sym, _∙_}
-use mathlib.Core.List.{List}
-use mathlib.Core.Option.{some}
-use Prim.Native.Nat.{ℕ, _+_, _*_, _-_, _<_, _≤_}
+use mathlib.Core.Path.{_≡_, refl, _∙_}
+use Prim.Native.Nat.{_+_, _*_, _-_, _<_, _≤_}
 use native.Mathlib.Omega.{arith}
 use native.Mathlib.Nat.{mul-le-mul}
 use lib.ListN.{length}
 use Rattle.lists.proofs.Field.{length-lent}
-use Rattle.model.specs.Inputs.{F, O, L, Fault}
+use Rattle.model.specs.Inputs.{Fault}
 use Rattle.model.specs.Choose.{bestPairs}
 use Rattle.best.specs.Best.{Picked}
 use Rattle.stages.proofs.Laws.{runs, table-room, extra-room}
-use Rattle.choose.specs.Choose.{Picking, PickedTo}
-use Rattle.choose.proofs.Laws.{none-behind, weighed-as, picked-next, records-stop, records-all}
+use Rattle.pick.specs.Pick.{Picking, PickedTo}
+use Rattle.pick.proofs.Laws.{none-behind, weighed-as, picked-next, records-stop, records-all}
 use borrow.Author.Needs.{needs}
-use Rattle.choose.proofs.pick_pairs.Statement.{statement}
-use Rattle.choose.proofs.pick_pairs.Tie as tie
+use Rattle.pick.proofs.pick_pairs.Statement.{statement}
+use Rattle.pick.proofs.pick_pairs.Tie as tie
 
 abbrev Inv-loop : tie.InvT-loop
 Inv-loop c job t free states list left reach k merits pins flops outs hits masks feed₀ words₀ state₀ units₀ bits₀ times₀ extras₀ table₀ result₀ m₀ feed words state units bits times extras table result m =

@@ -1,8 +1,8 @@
 use native.Mathlib.Omega.{arith}
 use borrow.Author.Tests.{lt-ltb, le-ltb}
-use Rattle.choose.specs.Choose.{reachOf}
-use Rattle.choose.proofs.reached.Statement.{statement}
-use Rattle.choose.proofs.reached.Tie as tie
+use Rattle.pick.specs.Pick.{reachOf}
+use Rattle.pick.proofs.reached.Statement.{statement}
+use Rattle.pick.proofs.reached.Tie as tie
 
 returns : tie.Need-returns
 unfolding reachOf

@@ -1,14 +1,11 @@
-use mathlib.Core.Path.{_≡_, sym, _∙_}
-use Prim.Native.Nat.{_+_, _*_, _<_, _≤_}
+use Prim.Native.Nat.{_+_, _*_, _≤_}
 use native.Mathlib.Omega.{arith}
 use native.Mathlib.Nat.{mul-le-mul, mul-le-mul-left, mul-comm}
-use lib.ListN.{length}
 use Rattle.lists.proofs.Field.{row-fits}
 use Rattle.model.specs.Inputs.{F, L}
-use Rattle.choose.proofs.Laws.{again-start, again-unit}
-use borrow.Author.Needs.{needs}
-use Rattle.choose.proofs.weigh_again.Statement.{statement}
-use Rattle.choose.proofs.weigh_again.Tie as tie
+use Rattle.pick.proofs.Laws.{again-start, again-unit}
+use Rattle.pick.proofs.weigh_again.Statement.{statement}
+use Rattle.pick.proofs.weigh_again.Tie as tie
 
 -- places
 abbrev start : tie.After-slice-known → tie.Start

@@ -1,12 +1,11 @@
-use mathlib.Core.Path.{_≡_, sym, _∙_}
-use Prim.Native.Nat.{_+_, _*_, _<_, _≤_}
+use mathlib.Core.Path.{_∙_}
+use Prim.Native.Nat.{_*_, _≤_}
 use native.Mathlib.Omega.{arith}
 use native.Mathlib.Nat.{mul-le-mul, mul-le-mul-left, mul-comm}
 use Rattle.model.specs.Inputs.{F, L}
-use Rattle.choose.proofs.Laws.{all-weighed}
-use borrow.Author.Needs.{needs}
-use Rattle.choose.proofs.weigh_all.Statement.{statement}
-use Rattle.choose.proofs.weigh_all.Tie as tie
+use Rattle.pick.proofs.Laws.{all-weighed}
+use Rattle.pick.proofs.weigh_all.Statement.{statement}
+use Rattle.pick.proofs.weigh_all.Tie as tie
 
 -- places
 abbrev start : tie.After-weigh-start → tie.Start

@@ -1,15 +1,14 @@
 use mathlib.Core.Path.{_≡_, ap, _∙_}
-use Prim.Native.Nat.{_+_, _*_, _<_, _≤_}
+use Prim.Native.Nat.{_*_, _≤_}
 use native.Mathlib.Omega.{arith}
 use native.Mathlib.Nat.{mul-le-mul, mul-le-mul-left, mul-le-mul-right, mul-comm}
 use lib.ListN.{length}
-use Rattle.model.specs.Inputs.{F, O, L}
+use Rattle.model.specs.Inputs.{F, L}
 use Rattle.job.proofs.Laws.{response-size}
-use Rattle.choose.specs.Choose.{reachOf}
-use Rattle.choose.proofs.Laws.{reach-some, reach-most, picking, at-most}
-use borrow.Author.Needs.{needs}
-use Rattle.choose.proofs.choose_pairs.Statement.{statement}
-use Rattle.choose.proofs.choose_pairs.Tie as tie
+use Rattle.pick.specs.Pick.{reachOf}
+use Rattle.pick.proofs.Laws.{reach-some, reach-most, picking, at-most}
+use Rattle.pick.proofs.choose_pairs.Statement.{statement}
+use Rattle.pick.proofs.choose_pairs.Tie as tie
 
 -- places
 abbrev start : tie.After-copy-row → tie.Start

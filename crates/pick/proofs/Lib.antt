@@ -1,0 +1,2 @@
+-- Laws of picking pairs.
+pub mod Laws

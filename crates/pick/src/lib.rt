@@ -1,0 +1,338 @@
+// Picking pairs for Choose, one after another, each the best of those that stage 5 would take next. All pairs are weighed once, and after a pick
+// those of its unit again.
+ghost use mathlib.Core.Path.{_≡_};
+ghost use Prim.Native.Nat.{_*_, _<_, _≤_};
+ghost use lib.ListN.{length};
+ghost use Rattle.model.specs.Inputs.{F, O, L};
+ghost use Rattle.best.specs.Best.{AtMost, mostNout, mostMerit};
+ghost use Rattle.stages.specs.Stages.{Tabled};
+ghost use Rattle.pick.specs.Pick.{reachOf, AllWeighed, WeighedAgain, AllPicked, ChosenFrom};
+use job::Job;
+use stages::Counts;
+use stages::Extras;
+use stages::Feed;
+use stages::Hits;
+use stages::Masks;
+use stages::State;
+use stages::Table;
+use stages::Times;
+use stages::Trials;
+use stages::Words;
+
+// How many units may have a pair that is taken: the first, and those behind a unit with Nout above 0.
+fn reached(units: usize, left: usize) -> usize
+    ensures { λ r. ⌜ r ≡ reachOf units left ⌝ }
+{
+    if left < units {
+        return left + 1;
+    }
+    units
+}
+
+// The entries of all pairs, before the first pick.
+fn weigh_all(
+    c: &[u8],
+    job: Job,
+    t: &[u8],
+    free: &Table,
+    states: &Table,
+    list: &Table,
+    left: usize,
+    reach: usize,
+    merits: &Counts,
+    pins: &[u16],
+    flops: &[usize],
+    outs: &[usize],
+    hits: &Hits,
+    masks: &Masks,
+    feed: &mut Feed,
+    words: &mut Words,
+    state: &mut State,
+    units: &mut Trials,
+    bits: &mut Trials,
+    times: &Times,
+    extras: &mut Extras,
+    table: &mut [u8],
+)
+    requires { ⌜ (Tabled (now c) (now t) job (now pins) (now flops) (now outs)) × (0 < reach) × (reach ≤ L (now c) (now t)) × (4 * (F (now c) * reach) ≤ length (now table)) ⌝ }
+    ensures { λ _. ⌜ AllWeighed (now (c .entry)) (now (t .entry)) (now (free .entry)) (now (states .entry)) (now (list .entry)) (now (hits .entry)) (now (masks .entry)) (now (merits .entry)) left reach
+        (now (times .entry)) (now (extras .exit)) (now (table .exit)) ⌝ }
+{
+    weigh::weigh_start(job.flops, list, 0, times, extras, table);
+    weigh::weigh(
+        c,
+        job,
+        t,
+        free,
+        states,
+        list,
+        job.flops,
+        job.flops * reach,
+        left,
+        0,
+        pins,
+        flops,
+        outs,
+        hits,
+        masks,
+        feed,
+        words,
+        state,
+        units,
+        bits,
+        times,
+        extras,
+        table,
+    );
+}
+
+// The entries of unit u again, where m pairs are picked, the last of them at u; none where they are all.
+fn weigh_again(
+    c: &[u8],
+    job: Job,
+    t: &[u8],
+    free: &Table,
+    states: &Table,
+    list: &Table,
+    left: usize,
+    reach: usize,
+    u: usize,
+    m: usize,
+    k: usize,
+    merits: &Counts,
+    pins: &[u16],
+    flops: &[usize],
+    outs: &[usize],
+    hits: &Hits,
+    masks: &Masks,
+    feed: &mut Feed,
+    words: &mut Words,
+    state: &mut State,
+    units: &mut Trials,
+    bits: &mut Trials,
+    times: &Times,
+    extras: &mut Extras,
+    table: &mut [u8],
+)
+    requires { ⌜ (Tabled (now c) (now t) job (now pins) (now flops) (now outs)) × (u < reach) × (reach ≤ L (now c) (now t)) × (k ≤ 12) × (4 * (F (now c) * reach) ≤ length (now table)) ⌝ }
+    ensures { λ _. ⌜ WeighedAgain (now (c .entry)) (now (t .entry)) (now (free .entry)) (now (states .entry)) (now (list .entry)) (now (hits .entry)) (now (masks .entry)) (now (merits .entry)) left reach u m k
+        (now (times .entry)) (now (extras .entry)) (now (table .entry)) (now (extras .exit)) (now (table .exit)) ⌝ }
+{
+    if m >= k {
+        return;
+    }
+    if u == 0 {
+        weigh::weigh_start(job.flops, list, m, times, extras, table);
+        return;
+    }
+    let from = job.flops * u;
+    weigh::weigh(
+        c,
+        job,
+        t,
+        free,
+        states,
+        list,
+        from,
+        from + job.flops,
+        left,
+        m,
+        pins,
+        flops,
+        outs,
+        hits,
+        masks,
+        feed,
+        words,
+        state,
+        units,
+        bits,
+        times,
+        extras,
+        table,
+    );
+}
+
+// Up to k picks, each written as a plan record: how many there are.
+fn pick_pairs(
+    c: &[u8],
+    job: Job,
+    t: &[u8],
+    free: &Table,
+    states: &Table,
+    list: &Table,
+    left: usize,
+    reach: usize,
+    k: usize,
+    merits: &Counts,
+    pins: &[u16],
+    flops: &[usize],
+    outs: &[usize],
+    hits: &Hits,
+    masks: &Masks,
+    feed: &mut Feed,
+    words: &mut Words,
+    state: &mut State,
+    units: &mut Trials,
+    bits: &mut Trials,
+    times: &mut Times,
+    extras: &mut Extras,
+    table: &mut [u8],
+    result: &mut [u8],
+) -> usize
+    requires { ⌜ (Tabled (now c) (now t) job (now pins) (now flops) (now outs)) × (reach ≤ L (now c) (now t)) × (k ≤ 12) × (4 * (F (now c) * reach) ≤ length (now table)) × (4 * k ≤ length (now result))
+        × (AtMost mostMerit reach (now merits)) ⌝ }
+    ensures { λ r. ⌜ AllPicked (now (c .entry)) (now (t .entry)) (now (free .entry)) (now (states .entry)) (now (list .entry)) (now (hits .entry)) (now (masks .entry)) (now (merits .entry)) left reach k
+        (now (times .entry)) (now (extras .entry)) (now (table .entry)) (now (result .entry)) (now (result .exit)) r ⌝ }
+{
+    let mut m: usize = 0;
+    while m < k {
+        let best = best::best_pair(reach, job.flops, merits, table);
+        if best.score == 0 {
+            return m;
+        }
+        take::take_pair(
+            c,
+            job,
+            t,
+            free,
+            states,
+            list,
+            left,
+            best.unit,
+            best.bit,
+            k,
+            m,
+            pins,
+            flops,
+            outs,
+            hits,
+            masks,
+            feed,
+            words,
+            state,
+            units,
+            bits,
+            times,
+            extras,
+        );
+        let at = 4 * m;
+        record::put_two(&mut result[at..], best.unit, best.bit);
+        m += 1;
+        weigh_again(
+            c,
+            job,
+            t,
+            free,
+            states,
+            list,
+            left,
+            reach,
+            best.unit,
+            m,
+            k,
+            merits,
+            pins,
+            flops,
+            outs,
+            hits,
+            masks,
+            feed,
+            words,
+            state,
+            units,
+            bits,
+            times,
+            extras,
+            table,
+        );
+    }
+    m
+}
+
+// The picks of a fault that stages 1 to 4 leave open. The fault-free responses leave the work area, which then holds the table of entries.
+pub fn choose_pairs(
+    c: &[u8],
+    job: Job,
+    t: &[u8],
+    states: &Table,
+    list: &Table,
+    nout: &Counts,
+    left: usize,
+    k: usize,
+    pins: &[u16],
+    flops: &[usize],
+    outs: &[usize],
+    hits: &Hits,
+    masks: &Masks,
+    feed: &mut Feed,
+    words: &mut Words,
+    state: &mut State,
+    units: &mut Trials,
+    bits: &mut Trials,
+    free: &mut Table,
+    merits: &mut Counts,
+    times: &mut Times,
+    extras: &mut Extras,
+    work: &mut [u8],
+    result: &mut [u8],
+) -> usize
+    requires { ⌜ (Tabled (now c) (now t) job (now pins) (now flops) (now outs)) × (k ≤ 12) × (L (now c) (now t) * O (now c) ≤ length (now work)) × (4 * (L (now c) (now t) * F (now c)) ≤ length (now work))
+        × (4 * k ≤ length (now result)) × (AtMost mostNout (L (now c) (now t)) (now nout)) ⌝ }
+    ensures { λ r. ⌜ ChosenFrom (now (c .entry)) (now (t .entry)) (now (work .entry)) (now (states .entry)) (now (list .entry)) (now (hits .entry)) (now (masks .entry)) (now (nout .entry)) left k
+        (now (result .entry)) (now (result .exit)) r ⌝ }
+{
+    rows::copy_row(work, job.units * job.outputs, free);
+    let reach = reached(job.units, left);
+    best::set_merits(reach, job.flops, states, nout, merits);
+    weigh_all(
+        c,
+        job,
+        t,
+        free,
+        states,
+        list,
+        left,
+        reach,
+        merits,
+        pins,
+        flops,
+        outs,
+        hits,
+        masks,
+        feed,
+        words,
+        state,
+        units,
+        bits,
+        times,
+        extras,
+        work,
+    );
+    pick_pairs(
+        c,
+        job,
+        t,
+        free,
+        states,
+        list,
+        left,
+        reach,
+        k,
+        merits,
+        pins,
+        flops,
+        outs,
+        hits,
+        masks,
+        feed,
+        words,
+        state,
+        units,
+        bits,
+        times,
+        extras,
+        work,
+        result,
+    )
+}
