@@ -38,10 +38,12 @@ mod tally;
 mod vectors;
 
 use bytes::{print_record, LentJob};
+use choose::choose;
+use program::FILES;
 use std::{env, fs, io, path::Path, process::ExitCode};
 
-const USAGE: &str = "usage: judge specimens | vectors DIR | call-vectors DIR | grade DIR K | bench-jobs DIR \
-    | compare-programs GRADER PROBE JOBS SEED | play-grader | play-probe; with the library also measure | growth";
+const USAGE: &str = "usage: judge specimens | vectors DIR | call-vectors DIR | grade DIR K | choose DIR K \
+    | bench-jobs DIR | compare-programs GRADER PROBE JOBS SEED | play-grader | play-probe; with the library also measure | growth";
 
 fn main() -> ExitCode {
     let arguments: Vec<String> = env::args().skip(1).collect();
@@ -59,6 +61,7 @@ fn main() -> ExitCode {
         ["play-grader"] => play::grader(),
         ["play-probe"] => play::probe(),
         ["grade", directory, k] => grade_files(Path::new(directory), k),
+        ["choose", directory, k] => choose_files(Path::new(directory), k),
         _ => Err(io::Error::other(USAGE)),
     };
     match done {
@@ -89,15 +92,42 @@ fn compare_programs(grader: &str, probe: &str, jobs: &str, seed: &str) -> io::Re
     compare::compare(grader, probe, jobs? as usize, seed?)
 }
 
-/// Prints the records of the job in a directory, or the refusal; a missing file is empty.
-fn grade_files(directory: &Path, k: &str) -> io::Result<()> {
+/// The job in a directory; a missing file is empty.
+fn job_of_files(directory: &Path, k: &str) -> io::Result<LentJob> {
     let k = k.parse().map_err(io::Error::other)?;
     let file = |name: &str| fs::read(directory.join(name)).unwrap_or_default();
-    let [circuit, test, faults, plan] = ["circuit.dat", "test.dat", "faults.dat", "plan.dat"].map(file);
-    let job = LentJob { work_len: usize::MAX, ..LentJob::new(circuit, test, faults, plan, k) };
-    match job.records() {
+    let [circuit, test, faults, plan] = FILES.map(file);
+    Ok(LentJob { work_len: usize::MAX, ..LentJob::new(circuit, test, faults, plan, k) })
+}
+
+/// Prints the records of the job in a directory, or the refusal.
+fn grade_files(directory: &Path, k: &str) -> io::Result<()> {
+    match job_of_files(directory, k)?.records() {
         Ok(records) => records.iter().for_each(|record| print!("{}", print_record(record))),
         Err((rule, position)) => println!("refused {rule} {position}"),
     }
     Ok(())
+}
+
+/// Prints for each fault of the job in a directory the pairs that Choose writes for it alone, or the refusal.
+fn choose_files(directory: &Path, k: &str) -> io::Result<()> {
+    let job = job_of_files(directory, k)?;
+    for fault in job.faults.chunks(4) {
+        let mut chosen = vec![0; 4 * job.k];
+        match choose(&job.circuit, &job.test, fault, job.k, job.work_len, &mut chosen) {
+            Ok(count) => println!("{}", print_choice(fault, &chosen[..4 * count])),
+            Err((rule, position)) => println!("refused {rule} {position}"),
+        }
+    }
+    Ok(())
+}
+
+/// Line, pin and value of the fault, then each pair as time and flip-flop index in brackets.
+fn print_choice(fault: &[u8], pairs: &[u8]) -> String {
+    let number = |field: &[u8]| u16::from_le_bytes([field[0], field[1]]);
+    let mut text = format!("{} {} {}:", number(fault), fault[2], fault[3]);
+    for pair in pairs.chunks_exact(4) {
+        text += &format!(" ({}, {})", number(pair), number(&pair[2..]));
+    }
+    text
 }
