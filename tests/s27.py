@@ -1,6 +1,7 @@
-"""The circuit s27 and its test in source document 001, and what the program s27_test must print.
+"""The circuit s27 and its test in source document 001: the sample job, and what the program s27_test must print.
 
-Writes samples/s27/, the same files in crates/s27_test/data/, and crates/s27_test/stdout. The detection times are those printed there (Table 3.4), not computed.
+Writes the four files of samples/s27/ with all faults of the circuit, and for s27_test the faults with a published time: crates/s27_test/data/ and its
+stdout. The detection times are those printed there (Table 3.4), not computed.
 Run it from the top of the repository: python3 tests/s27.py. samples/s27/README.md says what is published and what is inferred.
 
 The source numbers 26 places of the circuit, fanout branches included, and has no figure of them. The places below are those that agree with all its
@@ -37,23 +38,43 @@ TIMES = {                        # Table 3.4
     9: '14/0 16/0 17/0 24/0', 19: '6/1 24/1',
 }
 UNDETECTED = '7/0 15/0 19/1'     # 19/1 by the source's words, the others by their absence from Table 3.4
+PLAN = [(1, 1), (0, 0), (0, 1), (0, 2)]  # time and flip-flop index: what Choose writes for the fault 0 0 0 under the first four units of the test
 
 
 def places(names):
     return [(*PLACES[int(n)], int(v)) for n, v in (name.split('/') for name in names.split())]
 
 
-circuit = b''
-for n, (kind, pins) in enumerate(LINES):
-    circuit += bytes([kind, len(pins), n == OUTPUT, 0]) + b''.join(p.to_bytes(2, 'little') for p in pins + [0] * (4 - len(pins)))
-test = bytes(int(v) for v in TEST.replace(' ', ''))
-expected = [(f, f'{u}') for u in TIMES for f in places(TIMES[u])] + [(f, 'never') for f in places(UNDETECTED)]
-faults = b''.join(line.to_bytes(2, 'little') + bytes([pin, value]) for (line, pin, value), _ in expected)
+def field(number):
+    return number.to_bytes(2, 'little')
 
-for folder in 'samples/s27', 'crates/s27_test/data':
+
+def fault_records(faults):
+    return b''.join(field(line) + bytes([pin, value]) for line, pin, value in faults)
+
+
+def write(folder, files):
     os.makedirs(folder, exist_ok=True)
-    for name, data in ('circuit', circuit), ('test', test), ('faults', faults):
-        open(f'{folder}/{name}.dat', 'wb').write(data)
-with open('crates/s27_test/stdout', 'w') as out:
-    for (line, pin, value), time in expected:
-        out.write(f'{line} {pin} {value} {time}\n')
+    for name, data in files.items():
+        with open(f'{folder}/{name}.dat', 'wb') as out:
+            out.write(data)
+
+
+circuit = b''.join(
+    bytes([kind, len(pins), n == OUTPUT, 0]) + b''.join(map(field, pins + [0] * (4 - len(pins)))) for n, (kind, pins) in enumerate(LINES))
+test = bytes(int(v) for v in TEST.replace(' ', ''))
+every = [(line, pin, value) for line, (_, pins) in enumerate(LINES) for pin in range(len(pins) + 1) for value in (0, 1)]
+expected = [(f, f'{u}') for u in TIMES for f in places(TIMES[u])] + [(f, 'never') for f in places(UNDETECTED)]
+
+
+def main():
+    write('samples/s27', {
+        'circuit': circuit, 'test': test, 'faults': fault_records(every), 'plan': b''.join(field(time) + field(i) for time, i in PLAN)})
+    write('crates/s27_test/data', {'circuit': circuit, 'test': test, 'faults': fault_records(fault for fault, _ in expected)})
+    with open('crates/s27_test/stdout', 'w') as out:
+        for (line, pin, value), time in expected:
+            out.write(f'{line} {pin} {value} {time}\n')
+
+
+if __name__ == '__main__':
+    main()
