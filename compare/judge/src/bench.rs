@@ -29,7 +29,7 @@ pub fn write(directory: &Path) -> io::Result<()> {
     Ok(())
 }
 
-fn write_files(directory: &Path, job: &LentJob) -> io::Result<()> {
+pub fn write_files(directory: &Path, job: &LentJob) -> io::Result<()> {
     fs::create_dir_all(directory)?;
     let files = [("circuit", &job.circuit), ("test", &job.test), ("faults", &job.faults), ("plan", &job.plan)];
     files.iter().try_for_each(|(name, bytes)| fs::write(directory.join(format!("{name}.dat")), bytes))

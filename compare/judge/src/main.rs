@@ -8,6 +8,7 @@ mod calls;
 mod choose;
 mod circuit;
 mod compare;
+mod counter;
 mod damage;
 mod grade;
 mod group;
@@ -28,6 +29,7 @@ mod random_calls;
 mod random_files;
 mod refusals;
 mod s27;
+mod samples;
 mod scratch;
 mod search;
 mod simulate;
@@ -43,7 +45,8 @@ use program::FILES;
 use std::{env, fs, io, path::Path, process::ExitCode};
 
 const USAGE: &str = "usage: judge specimens | vectors DIR | call-vectors DIR | grade DIR K | choose DIR K \
-    | bench-jobs DIR | compare-programs GRADER PROBE JOBS SEED | play-grader | play-probe; with the library also measure | growth";
+    | bench-jobs DIR | sample-jobs DIR | compare-programs GRADER PROBE JOBS SEED | play-grader | play-probe; \
+    with the library also measure | growth";
 
 fn main() -> ExitCode {
     let arguments: Vec<String> = env::args().skip(1).collect();
@@ -52,6 +55,7 @@ fn main() -> ExitCode {
         ["specimens"] => check_specimens(),
         ["vectors", directory] => vectors::write(Path::new(directory)),
         ["call-vectors", directory] => call_vectors::write(Path::new(directory)),
+        ["sample-jobs", directory] => samples::write(Path::new(directory)),
         ["bench-jobs", directory] => bench::write(Path::new(directory)),
         #[cfg(feature = "library")]
         ["measure"] => measure::measure(),
