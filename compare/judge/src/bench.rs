@@ -2,6 +2,7 @@
 
 use crate::bytes::{plan_bytes, LentJob};
 use crate::jobs::{every_fault, job, Shape};
+use crate::program::K;
 use crate::random::Random;
 use crate::search::{faults_of_all_verdicts, faults_that_reach_stage_3, faults_that_stage_1_ends, with_faults, Place};
 use std::{fs, io, path::Path, time::Instant};
@@ -13,13 +14,23 @@ pub const JOBS: [(&str, Maker); 7] = [
     ("stage3_small", || many_trials(250, 30, 60, 40, 1)),
     ("stage3_middle", || many_trials(500, 50, 120, 30, 1)),
     ("stage3_large", || many_trials(1000, 80, 200, 20, 2)),
-    ("stage1", first_stage),
+    ("stage1", || first_stage(200, 2000, 500)),
     ("tiny", tiny),
-    ("stage5", many_sequences),
-    ("stage6", many_starts),
+    ("stage5", || many_sequences(12)),
+    ("stage6", || many_starts(12, 500)),
 ];
 
-/// Writes every job and prints its size, k, verdicts and the time this grader takes.
+/// The jobs for the program, by name: k is its own, the work area is no longer than the one it lends, and but for the
+/// last they take long enough that the start of a process is little of it.
+pub const PROGRAM_JOBS: [(&str, Maker); 5] = [
+    ("stage3", || many_trials(500, 50, 60, 60, 1)),
+    ("stage1", || repeated(first_stage(75, 4000, 400), 10)),
+    ("stage5", || repeated(many_sequences(K), 40)),
+    ("stage6", || repeated(many_starts(K, 30), 100)),
+    ("tiny", tiny),
+];
+
+/// Writes every job of the first list and prints its size, k, verdicts and the time this grader takes.
 pub fn write(directory: &Path) -> io::Result<()> {
     for (name, make) in JOBS {
         let job = make();
@@ -98,8 +109,9 @@ fn with_any_faults(job: &LentJob, mut chosen: Vec<Place>, faults: usize, random:
     with_faults(job, &chosen)
 }
 
-/// Flip-flops that inputs control, and five hundred faults most of which show in the plain response.
-fn first_stage() -> LentJob {
+/// Flip-flops that inputs control, and so many faults, most of which show in the plain response, found by looking at
+/// some more.
+fn first_stage(time_units: usize, looked_at: usize, faults: usize) -> LentJob {
     let mut random = Random(600);
     let shape = Shape {
         inputs: 30,
@@ -113,10 +125,10 @@ fn first_stage() -> LentJob {
         mixed: true,
         watches: 0,
     };
-    let found = job(shape, 200, 1, 6, random.next());
-    let mut shown = faults_that_stage_1_ends(&some_faults(&found, 2000, &mut random));
-    shown.truncate(420);
-    with_any_faults(&found, shown, 500, &mut random)
+    let found = job(shape, time_units, 1, 6, random.next());
+    let mut shown = faults_that_stage_1_ends(&some_faults(&found, looked_at, &mut random));
+    shown.truncate(faults * 84 / 100);
+    with_any_faults(&found, shown, faults, &mut random)
 }
 
 fn tiny() -> LentJob {
@@ -126,12 +138,12 @@ fn tiny() -> LentJob {
     faults_of_all_verdicts(&found, 4, &mut random)
 }
 
-/// Faults that take twelve pairs, with sequences most of which end late.
-fn many_sequences() -> LentJob {
+/// Ten faults, most of which take k pairs, with sequences most of which end late.
+fn many_sequences(k: usize) -> LentJob {
     let mut random = Random(12);
     let shape = Shape { inputs: 6, flip_flops: 24, gates: 150, self_feeding: 35, watches: 8, ..Shape::SMALL };
     loop {
-        let mut found = job(shape, 40, 1, 12, random.next());
+        let mut found = job(shape, 40, 1, k, random.next());
         mask_from(&mut found, 7, 25);
         let pairs: Vec<_> = (0..400).map(|_| (random.below(30), random.below(24))).collect();
         found.plan = plan_bytes(&pairs);
@@ -139,28 +151,33 @@ fn many_sequences() -> LentJob {
         reaching.truncate(10);
         let found = with_faults(&found, &reaching);
         let records = found.records().expect("the job is accepted");
-        if records.iter().filter(|record| record[1] == 12).count() >= 8 {
+        if records.iter().filter(|record| record[1] as usize == k).count() >= 8 {
             return found;
         }
     }
 }
 
-/// Twelve flip-flops and faults for which most starting states are tried, over many units.
-fn many_starts() -> LentJob {
+/// Ten faults, for most of which all starting states are tried or those up to a late one, over many units.
+fn many_starts(flip_flops: usize, late: u16) -> LentJob {
     let mut random = Random(13);
-    let shape = Shape { inputs: 6, flip_flops: 12, gates: 120, self_feeding: 30, watches: 8, ..Shape::SMALL };
+    let shape = Shape { inputs: 6, flip_flops, gates: 120, self_feeding: 30, watches: 8, ..Shape::SMALL };
     loop {
-        let mut found = job(shape, 40, 1, 12, random.next());
+        let mut found = job(shape, 40, 1, flip_flops, random.next());
         mask_from(&mut found, 7, 25);
         found.plan.clear();
         let mut reaching = faults_that_reach_stage_3(&some_faults(&found, 1500, &mut random));
         reaching.truncate(10);
         let found = with_faults(&found, &reaching);
         let records = found.records().expect("the job is accepted");
-        if records.iter().filter(|record| record[0] == 4 || record[7] > 500).count() >= 7 {
+        if records.iter().filter(|record| record[0] == 4 || record[7] > late).count() >= 7 {
             return found;
         }
     }
+}
+
+/// The job with its list of faults so many times over.
+fn repeated(job: LentJob, times: usize) -> LentJob {
+    LentJob { faults: job.faults.repeat(times), result_len: job.result_len * times, ..job }
 }
 
 /// Holds the last input at 0 before this unit and at 1 from it on.

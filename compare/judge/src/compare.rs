@@ -57,7 +57,7 @@ impl Comparison {
         let [circuit, test, faults, plan] = files.each_ref().map(|file| file.as_deref().unwrap_or_default());
         let expected = program::print([circuit, test, faults, plan]);
         self.tally.count_job(is_damaged, &expected);
-        let run = self.scratch.run(&self.grader)?;
+        let run = self.scratch.run(&self.grader, &[])?;
         self.hold(&format!("job {n}"), &[expected], run)
     }
 
@@ -78,7 +78,7 @@ impl Comparison {
         self.scratch.put("call.dat", Some(&bytes))?;
         let told = Some(&call).filter(|_| !is_bad);
         self.tally.count_call(told);
-        let run = self.scratch.run(&self.probe)?;
+        let run = self.scratch.run(&self.probe, &[])?;
         self.hold(&format!("call {n}, {:?}", call.kind), &prints(told), run)
     }
 

@@ -37,6 +37,7 @@ mod simulation;
 mod specimens;
 mod stages;
 mod tally;
+mod turns;
 mod vectors;
 
 use bytes::{print_record, LentJob};
@@ -45,8 +46,8 @@ use program::FILES;
 use std::{env, fs, io, path::Path, process::ExitCode};
 
 const USAGE: &str = "usage: judge specimens | vectors DIR | call-vectors DIR | grade DIR K | choose DIR K \
-    | bench-jobs DIR | sample-jobs DIR | compare-programs GRADER PROBE JOBS SEED | play-grader | play-probe; \
-    with the library also measure | growth";
+    | bench-jobs DIR | sample-jobs DIR | compare-programs GRADER PROBE JOBS SEED | measure-programs GRADER \
+    | play-grader | play-probe; with the library also measure | growth";
 
 fn main() -> ExitCode {
     let arguments: Vec<String> = env::args().skip(1).collect();
@@ -62,6 +63,7 @@ fn main() -> ExitCode {
         #[cfg(feature = "library")]
         ["growth"] => measure::growth(),
         ["compare-programs", grader, probe, jobs, seed] => compare_programs(grader, probe, jobs, seed),
+        ["measure-programs", grader] => turns::measure(grader),
         ["play-grader"] => play::grader(),
         ["play-probe"] => play::probe(),
         ["grade", directory, k] => grade_files(Path::new(directory), k),

@@ -50,8 +50,8 @@ impl Scratch {
         }
     }
 
-    pub fn run(&self, program: &Path) -> io::Result<Run> {
-        let output = Command::new(program).current_dir(self.job()).stdin(Stdio::null()).output()?;
+    pub fn run(&self, program: &Path, arguments: &[&str]) -> io::Result<Run> {
+        let output = Command::new(program).args(arguments).current_dir(self.job()).stdin(Stdio::null()).output()?;
         Ok(Run { print: output.stdout, succeeded: output.status.code() == Some(0) })
     }
 
