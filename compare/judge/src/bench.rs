@@ -4,7 +4,9 @@ use crate::bytes::{plan_bytes, LentJob};
 use crate::jobs::{every_fault, job, Shape};
 use crate::program::K;
 use crate::random::Random;
-use crate::search::{faults_of_all_verdicts, faults_that_reach_stage_3, faults_that_stage_1_ends, with_faults, Place};
+use crate::search::{
+    faults_of_all_verdicts, faults_that_reach_stage_3, faults_that_stage_1_ends, pairs_tried, with_faults, Place,
+};
 use std::{fs, io, path::Path, time::Instant};
 
 type Maker = fn() -> LentJob;
@@ -16,8 +18,8 @@ pub const JOBS: [(&str, Maker); 7] = [
     ("stage3_large", || many_trials(1000, 80, 200, 20, 2)),
     ("stage1", || first_stage(200, 2000, 500)),
     ("tiny", tiny),
-    ("stage5", || many_sequences(12)),
-    ("stage6", || many_starts(12, 500)),
+    ("stage5", || many_sequences(24, 12, usize::MAX)),
+    ("stage6", || many_starts(12, 500, usize::MAX)),
 ];
 
 /// The jobs for the program, by name: k is its own, the work area is no longer than the one it lends, and but for the
@@ -25,14 +27,20 @@ pub const JOBS: [(&str, Maker); 7] = [
 pub const PROGRAM_JOBS: [(&str, Maker); 5] = [
     ("stage3", || many_trials(500, 50, 60, 60, 1)),
     ("stage1", || repeated(first_stage(75, 4000, 400), 10)),
-    ("stage5", || repeated(many_sequences(K), 40)),
-    ("stage6", || repeated(many_starts(K, 30), 100)),
+    ("stage5", || repeated(many_sequences(8, K, 1_000), 40)),
+    ("stage6", || repeated(many_starts(K, 30, 800), 100)),
     ("tiny", tiny),
 ];
 
-/// Writes every job of the first list and prints its size, k, verdicts and the time this grader takes.
+/// Writes every job, those for the program to the folder `program`, and prints its size, k, verdicts and the time this
+/// grader takes.
 pub fn write(directory: &Path) -> io::Result<()> {
-    for (name, make) in JOBS {
+    write_jobs(directory, &JOBS)?;
+    write_jobs(&directory.join("program"), &PROGRAM_JOBS)
+}
+
+fn write_jobs(directory: &Path, jobs: &[(&str, Maker)]) -> io::Result<()> {
+    for (name, make) in jobs {
         let job = make();
         write_files(&directory.join(name), &job)?;
         report(name, &job);
@@ -138,27 +146,30 @@ fn tiny() -> LentJob {
     faults_of_all_verdicts(&found, 4, &mut random)
 }
 
-/// Ten faults, most of which take k pairs, with sequences most of which end late.
-fn many_sequences(k: usize) -> LentJob {
+/// Ten faults, most of which take k pairs, with sequences most of which end late; stage 3 tries no more than so many
+/// pairs in all.
+fn many_sequences(flip_flops: usize, k: usize, most_tried: usize) -> LentJob {
     let mut random = Random(12);
-    let shape = Shape { inputs: 6, flip_flops: 24, gates: 150, self_feeding: 35, watches: 8, ..Shape::SMALL };
+    let shape = Shape { inputs: 6, flip_flops, gates: 150, self_feeding: 35, watches: 8, ..Shape::SMALL };
     loop {
         let mut found = job(shape, 40, 1, k, random.next());
         mask_from(&mut found, 7, 25);
-        let pairs: Vec<_> = (0..400).map(|_| (random.below(30), random.below(24))).collect();
+        let pairs: Vec<_> = (0..400).map(|_| (random.below(30), random.below(flip_flops))).collect();
         found.plan = plan_bytes(&pairs);
         let mut reaching = faults_that_reach_stage_3(&some_faults(&found, 1500, &mut random));
         reaching.truncate(10);
         let found = with_faults(&found, &reaching);
         let records = found.records().expect("the job is accepted");
-        if records.iter().filter(|record| record[1] as usize == k).count() >= 8 {
+        let taking = records.iter().filter(|record| record[1] as usize == k);
+        if taking.count() >= 8 && pairs_tried(&found) <= most_tried {
             return found;
         }
     }
 }
 
-/// Ten faults, for most of which all starting states are tried or those up to a late one, over many units.
-fn many_starts(flip_flops: usize, late: u16) -> LentJob {
+/// Ten faults, for most of which all starting states are tried or those up to a late one, over many units; stage 3
+/// tries no more than so many pairs in all.
+fn many_starts(flip_flops: usize, late: u16, most_tried: usize) -> LentJob {
     let mut random = Random(13);
     let shape = Shape { inputs: 6, flip_flops, gates: 120, self_feeding: 30, watches: 8, ..Shape::SMALL };
     loop {
@@ -169,7 +180,8 @@ fn many_starts(flip_flops: usize, late: u16) -> LentJob {
         reaching.truncate(10);
         let found = with_faults(&found, &reaching);
         let records = found.records().expect("the job is accepted");
-        if records.iter().filter(|record| record[0] == 4 || record[7] > late).count() >= 7 {
+        let trying = records.iter().filter(|record| record[0] == 4 || record[7] > late);
+        if trying.count() >= 7 && pairs_tried(&found) <= most_tried {
             return found;
         }
     }

@@ -98,6 +98,17 @@ pub fn trials(job: &LentJob) -> (usize, usize) {
     (most_bits.unwrap_or(0), implied.one_marked)
 }
 
+/// The pairs of which stage 3 tries both values, over all faults of the job that reach it.
+pub fn pairs_tried(job: &LentJob) -> usize {
+    let read = read_job(job);
+    let mut stages = Stages::new(&read);
+    let mut tried = |&fault: &Fault| match stages.reaches_stage_3(fault) {
+        true => (1..read.time_units).map(|u| stages.bits_tried(u)).sum(),
+        false => 0,
+    };
+    read.faults.iter().map(&mut tried).sum()
+}
+
 /// Those of the job's faults that stage 1 ends.
 pub fn faults_that_stage_1_ends(job: &LentJob) -> Vec<Place> {
     faults_that(job, |stages, fault| stages.stage_1_ends(fault))
