@@ -28,16 +28,20 @@ pub fn measure(grader: &str) -> io::Result<()> {
         for (file, bytes) in FILES.into_iter().zip([&job.circuit, &job.test, &job.faults, &job.plan]) {
             scratch.put(file, Some(bytes))?;
         }
-        let [program, judge] = take_turns(&scratch, [Player::new(&grader, &[]), Player::new(&judge, &["play-grader"])])
+        let players = [Player::new(&grader, &[]), Player::new(&judge, &["play-grader"])];
+        let [program, judge] = take_turns(&scratch, job.faults.len() / 4, players)
             .map_err(|error| io::Error::other(format!("{name}: {error}")))?;
         println!("{name}: {}: {}", size(&job), ratio(&program, &judge));
     }
     scratch.clear()
 }
 
-/// Runs both once and then by turns; all runs print the same.
-fn take_turns(scratch: &Scratch, mut players: [Player; 2]) -> io::Result<[Player; 2]> {
+/// Runs both once and then by turns; all runs print the same, a line for each fault.
+fn take_turns(scratch: &Scratch, faults: usize, mut players: [Player; 2]) -> io::Result<[Player; 2]> {
     let expected = players[1].run(scratch)?;
+    if expected.print.iter().filter(|&&byte| byte == b'\n').count() != faults {
+        return Err(io::Error::other("the job is refused"));
+    }
     if players[0].run(scratch)? != expected || !expected.succeeded {
         return Err(io::Error::other("the prints differ"));
     }
