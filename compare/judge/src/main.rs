@@ -18,6 +18,8 @@ mod jobs;
 mod linked;
 #[cfg(feature = "library")]
 mod measure;
+#[cfg(feature = "library")]
+mod measure_choose;
 mod mixture;
 mod model_jobs;
 mod odd;
@@ -47,7 +49,7 @@ use std::{env, fs, io, path::Path, process::ExitCode};
 
 const USAGE: &str = "usage: judge specimens | vectors DIR | call-vectors DIR | grade DIR K | choose DIR K \
     | bench-jobs DIR | sample-jobs DIR | compare-programs GRADER PROBE JOBS SEED | measure-programs GRADER \
-    | play-grader | play-probe; with the library also measure | growth";
+    | play-grader | play-probe; with the library also measure | measure-choose | growth";
 
 fn main() -> ExitCode {
     let arguments: Vec<String> = env::args().skip(1).collect();
@@ -60,6 +62,8 @@ fn main() -> ExitCode {
         ["bench-jobs", directory] => bench::write(Path::new(directory)),
         #[cfg(feature = "library")]
         ["measure"] => measure::measure(),
+        #[cfg(feature = "library")]
+        ["measure-choose"] => measure_choose::measure(),
         #[cfg(feature = "library")]
         ["growth"] => measure::growth(),
         ["compare-programs", grader, probe, jobs, seed] => compare_programs(grader, probe, jobs, seed),

@@ -4,14 +4,25 @@ use crate::bench;
 use crate::bytes::LentJob;
 use crate::grade::grade;
 use crate::random::Random;
+use crate::refusals::Refusal;
 use std::{hint::black_box, io, time::Instant};
 
 /// What an exported call returns: 0, 0 and how much it did, or 1, the rule and its position.
 #[repr(C)]
-struct Answered {
+pub struct Answered {
     refused: usize,
     rule: usize,
     number: usize,
+}
+
+impl Answered {
+    /// As this grader answers.
+    pub fn result(self) -> Result<usize, Refusal> {
+        match self {
+            Answered { refused: 0, number, .. } => Ok(number),
+            Answered { rule, number, .. } => Err((rule as u8, number)),
+        }
+    }
 }
 
 #[rustfmt::skip]
@@ -24,17 +35,17 @@ extern "C" {
 }
 
 /// The two areas of a job, made once.
-struct Areas {
-    work: Vec<u8>,
-    result: Vec<u8>,
+pub struct Areas {
+    pub work: Vec<u8>,
+    pub result: Vec<u8>,
 }
 
 impl Areas {
-    fn of(job: &LentJob) -> Areas {
+    pub fn of(job: &LentJob) -> Areas {
         Areas { work: vec![0; job.work_len], result: vec![0; job.result_len] }
     }
 
-    fn by_library(&mut self, job: &LentJob) -> Result<usize, (u8, usize)> {
+    fn by_library(&mut self, job: &LentJob) -> Result<usize, Refusal> {
         let LentJob { circuit, test, faults, plan, k, .. } = job;
         let Areas { work, result } = self;
         // Each pointer goes with the length of the list it points to, and only the two areas are written.
@@ -46,46 +57,42 @@ impl Areas {
                 work.as_mut_ptr(), work.len(), result.as_mut_ptr(), result.len(),
             )
         };
-        match answered {
-            Answered { refused: 0, number, .. } => Ok(number),
-            Answered { rule, number, .. } => Err((rule as u8, number)),
-        }
+        answered.result()
     }
 
-    fn by_judge(&mut self, job: &LentJob) -> Result<usize, (u8, usize)> {
+    fn by_judge(&mut self, job: &LentJob) -> Result<usize, Refusal> {
         let LentJob { circuit, test, faults, plan, k, work_len, .. } = job;
         grade(circuit, test, faults, plan, *k, *work_len, &mut self.result)
     }
 }
 
-/// Whether answer and result area are the same.
-fn alike(job: &LentJob) -> bool {
-    let (mut library, mut judge) = (Areas::of(job), Areas::of(job));
-    library.by_library(job) == judge.by_judge(job) && library.result == judge.result
-}
-
-fn seconds(call: impl FnOnce() -> Result<usize, (u8, usize)>) -> f64 {
+fn seconds(call: impl FnOnce() -> Result<usize, Refusal>) -> f64 {
     let begun = Instant::now();
     let _ = black_box(call());
     begun.elapsed().as_secs_f64()
 }
 
+/// A call of the library or of this grader on the areas of a job.
+pub type Call = fn(&mut Areas, &LentJob) -> Result<usize, Refusal>;
+
 /// Prints for each job the milliseconds of this grader and of the library, each the least of many calls by turns, and their ratio.
 pub fn measure() -> io::Result<()> {
-    for (name, make) in bench::JOBS {
-        let job = make();
-        if !alike(&job) {
-            return Err(io::Error::other(format!("{name}: the answers differ")));
-        }
-        let (mut library, mut judge) = (Areas::of(&job), Areas::of(&job));
-        let (mut ours, mut theirs) = (f64::INFINITY, f64::INFINITY);
-        let begun = Instant::now();
-        while begun.elapsed().as_secs_f64() < 2.0 || ours == f64::INFINITY {
-            ours = ours.min(seconds(|| library.by_library(&job)));
-            theirs = theirs.min(seconds(|| judge.by_judge(&job)));
-        }
-        println!("{name}: {:.3} ms, library {:.3} ms, {:.1} times as fast", theirs * 1e3, ours * 1e3, theirs / ours);
+    bench::JOBS.iter().try_for_each(|(name, make)| measure_calls(name, &make(), Areas::by_library, Areas::by_judge))
+}
+
+/// First that both answer alike, then the time of each.
+pub fn measure_calls(name: &str, job: &LentJob, by_library: Call, by_judge: Call) -> io::Result<()> {
+    let (mut library, mut judge) = (Areas::of(job), Areas::of(job));
+    if by_library(&mut library, job) != by_judge(&mut judge, job) || library.result != judge.result {
+        return Err(io::Error::other(format!("{name}: the answers differ")));
     }
+    let (mut ours, mut theirs) = (f64::INFINITY, f64::INFINITY);
+    let begun = Instant::now();
+    while begun.elapsed().as_secs_f64() < 2.0 || ours == f64::INFINITY {
+        ours = ours.min(seconds(|| by_library(&mut library, job)));
+        theirs = theirs.min(seconds(|| by_judge(&mut judge, job)));
+    }
+    println!("{name}: {:.3} ms, library {:.3} ms, {:.1} times as fast", theirs * 1e3, ours * 1e3, theirs / ours);
     Ok(())
 }
 
