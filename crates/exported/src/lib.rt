@@ -6,8 +6,9 @@ ghost use Rattle.model.specs.Inputs.{O, L, faultCount};
 ghost use Rattle.model.specs.Accepted.{ValidInputs};
 ghost use Rattle.lanes.specs.Lane.{bit};
 ghost use Rattle.faults.specs.Given.{laneFault};
-ghost use Rattle.job.specs.Job.{JobOf};
+ghost use Rattle.job.specs.Job.{answerOf, JobOf};
 ghost use Rattle.model.specs.Grade.{gradeAnswer, gradeArea};
+ghost use Rattle.model.specs.Choose.{chooseAnswer, chooseArea};
 ghost use Rattle.exported.specs.Detected.{opposed, detected};
 ghost use Rattle.exported.specs.Answered.{answered};
 use job::Job;
@@ -20,6 +21,23 @@ pub struct Answered {
     pub refused: usize,
     pub rule: usize,
     pub number: usize,
+}
+
+fn in_numbers(outcome: Outcome) -> Answered
+    ensures { λ r. ⌜ answered r ≡ answerOf outcome ⌝ }
+{
+    match outcome {
+        Outcome::Done(number) => Answered {
+            refused: 0,
+            rule: 0,
+            number,
+        },
+        Outcome::Refused { rule, at } => Answered {
+            refused: 1,
+            rule: rule as usize,
+            number: at,
+        },
+    }
 }
 
 // The faults of the list, one to a lane, each from the power-up state.
@@ -92,16 +110,21 @@ pub extern "C" fn balithoomai_grade(
     ensures answers { λ r. ⌜ answered r ≡ gradeAnswer (now (circuit .entry)) (now (test .entry)) (now (faults .entry)) (now (plan .entry)) k (length (now (work .entry))) (length (now (result .entry))) ⌝ }
     ensures writes { λ r. ⌜ now (result .exit) ≡ gradeArea (now (circuit .entry)) (now (test .entry)) (now (faults .entry)) (now (plan .entry)) k (length (now (work .entry))) (now (result .entry)) ⌝ }
 {
-    match grade::grade(circuit, test, faults, plan, k, work, result) {
-        Outcome::Done(number) => Answered {
-            refused: 0,
-            rule: 0,
-            number,
-        },
-        Outcome::Refused { rule, at } => Answered {
-            refused: 1,
-            rule: rule as usize,
-            number: at,
-        },
-    }
+    in_numbers(grade::grade(circuit, test, faults, plan, k, work, result))
+}
+
+// Choose, as programs in other languages call it.
+#[no_mangle]
+pub extern "C" fn balithoomai_choose(
+    circuit: &[u8],
+    test: &[u8],
+    faults: &[u8],
+    k: usize,
+    work: &mut [u8],
+    result: &mut [u8],
+) -> Answered
+    ensures answers { λ r. ⌜ answered r ≡ chooseAnswer (now (circuit .entry)) (now (test .entry)) (now (faults .entry)) k (length (now (work .entry))) (length (now (result .entry))) ⌝ }
+    ensures writes { λ r. ⌜ now (result .exit) ≡ chooseArea (now (circuit .entry)) (now (test .entry)) (now (faults .entry)) k (length (now (work .entry))) (now (result .entry)) ⌝ }
+{
+    in_numbers(choose::choose(circuit, test, faults, k, work, result))
 }
