@@ -93,27 +93,19 @@ fn run(
     }
 }
 
-// A 32-bit number, low byte first.
-fn long_at(bytes: &[u8], i: usize) -> usize
-    requires { ⌜ i + 4 ≤ length (now bytes) ⌝ }
-    ensures { λ r. ⌜ r < 4294967296 ⌝ }
-{
-    basics::word_at(bytes, i) + 65536 * basics::word_at(bytes, i + 2)
-}
-
 // The job that begins here; where the next one begins.
 fn run_job(jobs: &[u8], at: usize) -> usize
     requires { ⌜ at + 28 ≤ length (now jobs) ⌝ }
     ensures { λ r. ⌜ (at < r) × (r ≤ length (now (jobs .entry))) ⌝ }
 {
     let from = at + 28;
-    let test = from + long_at(jobs, at);
-    let faults = test + long_at(jobs, at + 4);
-    let plan = faults + long_at(jobs, at + 8);
-    let end = plan + long_at(jobs, at + 12);
-    let k = long_at(jobs, at + 16);
-    let room = long_at(jobs, at + 20);
-    let size = long_at(jobs, at + 24);
+    let test = from + printing::long_at(jobs, at);
+    let faults = test + printing::long_at(jobs, at + 4);
+    let plan = faults + printing::long_at(jobs, at + 8);
+    let end = plan + printing::long_at(jobs, at + 12);
+    let k = printing::long_at(jobs, at + 16);
+    let room = printing::long_at(jobs, at + 20);
+    let size = printing::long_at(jobs, at + 24);
     if jobs.len() < end {
         printing::cut_off();
         return jobs.len();

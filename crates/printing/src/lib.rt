@@ -1,14 +1,19 @@
-// What a program needs around the calls: text, numbers and values on standard output, a file read into an area, and a look at an area
+// What a program needs around the calls: text, numbers, values and areas on standard output, a file read into an area, and a look at an area
 // that is to have kept the byte it was made of, as `[BLANK; 2048]` is. What is printed is tested, not proved.
 ghost use mathlib.Core.Path.{_≡_};
 ghost use mathlib.Core.Bool.{true};
+ghost use Prim.Native.Nat.{_+_, _<_, _≤_};
+ghost use lib.ListN.{length};
 ghost use Rattle.io.specs.Counts.{Counts};
 ghost use Rattle.printing.specs.Only.{Only};
 use libc::STDERR_FILENO;
 use libc::STDOUT_FILENO;
 
 // The byte that a test program makes its areas of before a call.
-pub const BLANK: u8 = 170;
+pub const BLANK: u8 = 165;
+
+// Digits that are written at once.
+type Digits = [u8; 4096];
 
 // Bytes as they are.
 pub fn text(bytes: &[u8]) {
@@ -66,6 +71,89 @@ pub fn values(list: &[u8]) {
         value(list[i]);
         i += 1;
     }
+}
+
+// The digit of a number below 16.
+fn digit(n: u8) -> u8
+    requires { ⌜ n < 16 ⌝ }
+{
+    if n < 10 { b'0' + n } else { b'a' - 10 + n }
+}
+
+// A byte's two digits, put here; where the next stand.
+fn put_byte(out: &mut Digits, at: usize, byte: u8) -> usize
+    requires { ⌜ at + 2 ≤ 4096 ⌝ }
+    ensures { λ r. ⌜ r ≡ at + 2 ⌝ }
+{
+    out[at] = digit(byte / 16);
+    out[at + 1] = digit(byte % 16);
+    at + 2
+}
+
+// The end of a line, where there is one.
+fn put_end(out: &mut Digits, at: usize, ends: bool) -> usize
+    requires { ⌜ at < 4096 ⌝ }
+    ensures { λ r. ⌜ r ≤ at + 1 ⌝ }
+{
+    if ends {
+        out[at] = b'\n';
+        return at + 1;
+    }
+    at
+}
+
+fn write_digits(out: &Digits, size: usize)
+    requires { ⌜ size ≤ 4096 ⌝ }
+{
+    let digits = &out[..];
+    text(&digits[0..size]);
+}
+
+// Writes the digits where there is no room for more; where the next stand.
+fn emptied(out: &Digits, at: usize) -> usize
+    requires { ⌜ at ≤ 4096 ⌝ }
+    ensures { λ r. ⌜ r ≤ 4093 ⌝ }
+{
+    if 4093 < at {
+        write_digits(out, at);
+        return 0;
+    }
+    at
+}
+
+// Bytes in hexadecimal, so many a line, with the end of a line between two of them.
+pub fn hex(bytes: &[u8], width: usize)
+    requires { ⌜ 0 < width ⌝ }
+{
+    let mut out = [0u8; 4096];
+    let mut at: usize = 0;
+    let mut i: usize = 0;
+    while i < bytes.len() {
+        at = emptied(&out, at);
+        at = put_end(&mut out, at, basics::both(0 < i, i % width == 0));
+        at = put_byte(&mut out, at, bytes[i]);
+        i += 1;
+    }
+    write_digits(&out, at);
+}
+
+// A number of an area that is too long to print: any one byte that is changed, and nearly any two that change places, give another.
+pub fn checksum(bytes: &[u8]) -> usize {
+    let mut sum: usize = 0;
+    let mut i: usize = 0;
+    while i < bytes.len() {
+        sum = (257 * sum + basics::wide(bytes[i])) % 1000000007;
+        i += 1;
+    }
+    sum
+}
+
+// A 32-bit number, low byte first.
+pub fn long_at(bytes: &[u8], i: usize) -> usize
+    requires { ⌜ i + 4 ≤ length (now bytes) ⌝ }
+    ensures { λ r. ⌜ r < 4294967296 ⌝ }
+{
+    basics::word_at(bytes, i) + 65536 * basics::word_at(bytes, i + 2)
 }
 
 // Puts the file's bytes at the start of the area, as many as there is room for; how many. A file that cannot be opened has none, and is
