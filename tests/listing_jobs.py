@@ -13,7 +13,7 @@ printed = ''
 
 
 def checksum(text):
-    total = 0
+    total = 1
     for byte in text.encode():
         total = (257 * total + byte) % 1000000007
     return total

@@ -139,7 +139,7 @@ pub fn hex(bytes: &[u8], width: usize)
 
 // A number of an area that is too long to print: any one byte that is changed, and nearly any two that change places, give another.
 pub fn checksum(bytes: &[u8]) -> usize {
-    let mut sum: usize = 0;
+    let mut sum: usize = 1;
     let mut i: usize = 0;
     while i < bytes.len() {
         sum = (257 * sum + basics::wide(bytes[i])) % 1000000007;
