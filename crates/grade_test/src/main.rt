@@ -43,8 +43,7 @@ fn print_records(records: &[u8]) {
 fn print_done(n: usize, size: usize, result: &[u8; RESULT])
     requires { ⌜ size ≤ 8192 ⌝ }
 {
-    printing::text(b"done ");
-    printing::number(n);
+    printing::done(n);
     if size / 16 < n {
         printing::text(b" TOO MANY\n");
         return;

@@ -30,8 +30,7 @@ fn print_some(entries: &[u8]) {
 }
 
 fn print_done(n: usize, result: &Entries) {
-    printing::text(b"done ");
-    printing::number(n);
+    printing::done(n);
     if 32769 < n {
         printing::text(b" TOO MANY\n");
         return;

@@ -48,6 +48,12 @@ pub fn row(list: &[usize]) {
     text(b"\n");
 }
 
+// The number that an accepted call answered.
+pub fn done(n: usize) {
+    text(b"done ");
+    number(n);
+}
+
 // The number and the position by which a call refused.
 pub fn refused(rule: u8, at: usize) {
     text(b"refused ");

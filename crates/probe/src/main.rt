@@ -50,10 +50,7 @@ fn read(name: &[u8], area: &mut [u8]) -> usize
 
 fn print_outcome(outcome: Outcome) {
     match outcome {
-        Outcome::Done(n) => {
-            printing::text(b"done ");
-            printing::number(n);
-        }
+        Outcome::Done(n) => printing::done(n),
         Outcome::Refused { rule, at } => printing::refused(rule, at),
     }
     printing::text(b"\n");

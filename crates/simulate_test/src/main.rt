@@ -13,8 +13,7 @@ const WORK: usize = 40960;
 const RESULT: usize = 2048;
 
 fn print_done(n: usize, result: &[u8; RESULT]) {
-    printing::text(b"done ");
-    printing::number(n);
+    printing::done(n);
     printing::text(b" ");
     if RESULT < n {
         printing::text(b"TOO MANY\n");
