@@ -16,7 +16,7 @@ pub fn call(
     match number {
         1 => simulate::simulate(circuit, test, faults, work, result),
         2 => grade::grade(circuit, test, faults, plan, k, work, result),
-        3 => Outcome::Refused { rule: 0, at: 0 },
+        3 => choose::choose(circuit, test, faults, k, work, result),
         _ => group::group(verdicts, result),
     }
 }
