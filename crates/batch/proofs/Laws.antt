@@ -5,11 +5,13 @@ use mathlib.Core.List.{List, _++_}
 use mathlib.Core.Option.{none, orElse}
 use Prim.Native.Nat.{ℕ, _+_, _*_, _-_, _≤_}
 use native.Mathlib.Omega.{arith}
+use native.Mathlib.Nat.{mul-le-mul-left, mul-add}
 use borrow.Author.Tests.{lt-ltb, ltb-false}
 use lib.ListN.{getD, length, take, drop}
 use Rattle.lists.specs.Scan.{gather}
 use Rattle.lists.specs.Field.{overwritten, Rows}
-use Rattle.model.specs.Inputs.{O, L, Fault, faultCount, faultAt}
+use Rattle.model.specs.Inputs.{F, O, L, Fault, faultCount, faultAt}
+use Rattle.model.specs.Refusals.{workBytes}
 use Rattle.model.specs.Accepted.{ValidInputs}
 use Rattle.model.specs.Simulation.{noFault, powerUp, outputsAt, freeOutputs}
 use Rattle.fault.proofs.Tables.{response-rows}
@@ -22,6 +24,13 @@ use Rattle.plain.specs.Places.{Places}
 use Rattle.faults.specs.Given.{Batch, laneFault, Given}
 use Rattle.record.proofs.Laws.{record-behind}
 use Rattle.batch.specs.Batch.{FirstOf, Found, RecordsTo}
+
+-- number 13 asks for room enough for the responses, fault-free and faulty
+pub work-room : (c t : List ℕ) (work : ℕ) → workBytes c t ≤ work → L c t * O c + L c t * O c ≤ work
+unfolding workBytes
+work-room c t work h =
+    let twice : L c t * (O c + O c) ≤ L c t * (4 * O c + 16 * F c + 8) = mul-le-mul-left (L c t) (omega arith) in
+    omega (arith, mul-add (L c t) (O c) (O c))
 
 -- the run of no fault
 pub free-rows : (c t table old : List ℕ) → table ≡ overwritten (gather (λ u. outputsAt c t noFault (powerUp c) u) (L c t)) old → Rows (O c) (L c t) table (λ u. freeOutputs c t u)

@@ -5,7 +5,7 @@ use mathlib.Core.List.{List, []}
 use mathlib.Core.Option.{some, orElse}
 use Prim.Native.Nat.{ℕ, _+_, _*_, _≤_}
 use native.Mathlib.Omega.{arith}
-use native.Mathlib.Nat.{mul-le-mul-left, mul-add, mul-assoc}
+use native.Mathlib.Nat.{mul-le-mul-left, mul-assoc}
 use lib.ListN.{getD}
 use Rattle.lists.proofs.Field.{overwritten-none}
 use Rattle.model.specs.Inputs.{F, O, L, Fault}
@@ -22,15 +22,14 @@ use Rattle.batch.specs.Batch.{FirstOf}
 use Rattle.stages.specs.Stages.{Tabled}
 use Rattle.pick.specs.Pick.{Records}
 
--- ---- the room that number 13 asks for
-pub table-size : (c t : List ℕ) (work : ℕ) → workBytes c t ≤ work → (L c t * O c + L c t * O c ≤ work) × (4 * (L c t * F c) ≤ work)
+-- number 13 asks for room enough for an entry a pair
+pub table-size : (c t : List ℕ) (work : ℕ) → workBytes c t ≤ work → 4 * (L c t * F c) ≤ work
 unfolding workBytes
 table-size c t work h =
-    let twice : L c t * (O c + O c) ≤ L c t * (4 * O c + 16 * F c + 8) = mul-le-mul-left (L c t) (omega arith) in
     let four : L c t * (F c * 4) ≤ L c t * (4 * O c + 16 * F c + 8) = mul-le-mul-left (L c t) (omega arith) in
-    (omega (arith, mul-add (L c t) (O c) (O c)), omega (arith, mul-assoc (L c t) (F c) 4))
+    omega (arith, mul-assoc (L c t) (F c) 4)
 
--- ---- no records
+-- no records
 pub records-none : (pairs : List (ℕ × ℕ)) (area : List ℕ) → pairs ≡ [] → Records pairs area area 0
 unfolding planBytes
 records-none pairs area e = record { count = rw e; area = rw e (sym (overwritten-none area)) }

@@ -1,15 +1,12 @@
--- Room for the responses, and the records of a whole list.
+-- The records of a whole list.
 use mathlib.Core.Path.{_≡_, sym}
 use mathlib.Core.List.{List}
-use Prim.Native.Nat.{ℕ, _+_, _*_, _/_, _≤_}
-use native.Mathlib.Omega.{arith}
-use native.Mathlib.Nat.{mul-le-mul-left, mul-add}
+use Prim.Native.Nat.{ℕ, _/_, _≤_}
 use lib.ListN.{length}
 use Rattle.lists.specs.Scan.{gather}
 use Rattle.lists.specs.Field.{overwritten}
 use Rattle.lists.proofs.Field.{overwritten-none}
-use Rattle.model.specs.Inputs.{F, O, L, faultCount}
-use Rattle.model.specs.Refusals.{workBytes}
+use Rattle.model.specs.Inputs.{faultCount}
 use Rattle.model.specs.Accepted.{GradeReady}
 use Rattle.model.specs.Grade.{gradeBytes, gradeArea}
 use Rattle.model.specs.Promises.{Demand3}
@@ -19,13 +16,6 @@ use Rattle.job.specs.Job.{JobOf}
 use Rattle.job.specs.declared.Job.{Job}
 use Rattle.stages.specs.Stages.{Gradable}
 use Rattle.batch.specs.Batch.{RecordsTo}
-
--- number 13 asks for room enough
-pub work-room : (c t : List ℕ) (work : ℕ) → workBytes c t ≤ work → L c t * O c + L c t * O c ≤ work
-unfolding workBytes
-work-room c t work h =
-    let twice : L c t * (O c + O c) ≤ L c t * (4 * O c + 16 * F c + 8) = mul-le-mul-left (L c t) (omega arith) in
-    omega (arith, mul-add (L c t) (O c) (O c))
 
 -- what the stages ask for, of an accepted job
 pub gradable : {c t fs plan pins flops outs : List ℕ} {k work result : ℕ} {job : Job} → GradeReady c t fs plan k work result → JobOf c t job → Tables c pins flops outs → Gradable c t plan k job pins flops outs

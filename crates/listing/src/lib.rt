@@ -142,7 +142,7 @@ fn put_job(
     }
 }
 
-// What the program prints; see README.md, The program.
+// What the program prints; see README.md, The program and its list.
 pub fn listing(
     circuit: &[u8],
     test: &[u8],

@@ -2,7 +2,7 @@ use mathlib.Core.Path.{sym, _∙_}
 use native.Mathlib.Omega.{arith}
 use Rattle.model.proofs.Choose.{chosen-decided}
 use Rattle.faults.proofs.Laws.{blank-zeros}
-use Rattle.batch.proofs.Laws.{open-first}
+use Rattle.batch.proofs.Laws.{work-room, open-first}
 use Rattle.choose.proofs.Laws.{table-size, records-none, inputs-as, tabled, decided-first}
 use borrow.Author.Needs.{needs}
 use Rattle.choose.proofs.choose_job.Statement.{statement}
@@ -40,7 +40,7 @@ write-free-requires : tie.Need-write-free-requires
 write-free-requires c κs =
     let tables = listed c in
     let pre = start (tables .before) .pre in
-    (tabled (pre .0) (pre .1) (tables .list-tables .ensures), blank-zeros 4096 2560, table-size _ _ _ (pre .0 .workRoom) .0)
+    (tabled (pre .0) (pre .1) (tables .list-tables .ensures), blank-zeros 4096 2560, work-room _ _ _ (pre .0 .workRoom))
 
 find-places-requires : tie.Need-find-places-requires
 find-places-requires c κs =
@@ -67,7 +67,7 @@ choose-open-requires c κs =
       omega (arith, inputs .whole, inputs .enough),
       inputs .fault 0 (omega (arith, inputs .enough)),
       pre .0 .limit,
-      omega (arith, table-size _ _ _ (pre .0 .workRoom) .1, held (places .before) .work .given),
+      omega (arith, table-size _ _ _ (pre .0 .workRoom), held (places .before) .work .given),
       pre .0 .resultRoom,
     )
 

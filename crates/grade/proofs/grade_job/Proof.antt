@@ -1,6 +1,7 @@
 use native.Mathlib.Omega.{arith}
 use Rattle.faults.proofs.Laws.{blank-zeros}
-use Rattle.grade.proofs.Laws.{work-room, gradable}
+use Rattle.batch.proofs.Laws.{work-room}
+use Rattle.grade.proofs.Laws.{gradable}
 use borrow.Author.Needs.{needs}
 use Rattle.grade.proofs.grade_job.Statement.{statement}
 use Rattle.grade.proofs.grade_job.Tie as tie
