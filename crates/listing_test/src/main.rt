@@ -1,63 +1,15 @@
 // Calls `listing` on files that are made here and prints under a title how many bytes it made, and these; of a long print its first two lines,
 // its last, and a checksum of all. tests/listing_jobs.py writes what is to be printed.
-ghost use Prim.Native.Nat.{_≤_};
+ghost use Prim.Native.Nat.{_<_, _≤_};
 ghost use lib.ListN.{length};
 use listing::Area;
 use listing::Longer;
 use listing::Print;
 
-// Specimen A of document 01: input 0; flip-flop 1 of 3, output; 2 = NOT 1; 3 = AND 0, 2. Its test, and the four faults of its print.
-const CIRCUIT: [u8; 48] = [
-    0,
-    0,
-    0,
-    0,
-    0,
-    0,
-    0,
-    0,
-    0,
-    0,
-    0,
-    0,
-    1,
-    1,
-    1,
-    0,
-    3,
-    0,
-    0,
-    0,
-    0,
-    0,
-    0,
-    0,
-    3,
-    1,
-    0,
-    0,
-    1,
-    0,
-    0,
-    0,
-    0,
-    0,
-    0,
-    0,
-    4,
-    2,
-    0,
-    0,
-    0,
-    0,
-    2,
-    0,
-    0,
-    0,
-    0,
-    0,
-];
+// The records of at most six lines.
+type Circuit = [u8; 72];
 
+// The test of specimen A of document 01, and the four faults of its print.
 const TEST: [u8; 3] = [0, 0, 0];
 
 const FAULTS: [u8; 16] = [0, 0, 0, 1, 0, 0, 0, 0, 3, 0, 0, 1, 3, 0, 1, 1];
@@ -145,36 +97,68 @@ fn list(title: &[u8], circuit: &[u8], test: &[u8], faults: &[u8], plan: &[u8], l
 
 // The same, where each file ends with the bytes that were read.
 fn list_whole(title: &[u8], circuit: &[u8], test: &[u8], faults: &[u8], plan: &[u8]) {
-    list(
-        title,
+    let longer = Longer {
+        circuit: false,
+        test: false,
+        faults: false,
+        plan: false,
+    };
+    list(title, circuit, test, faults, plan, longer);
+}
+
+// The same, of a circuit of so many lines.
+fn list_lines(
+    title: &[u8],
+    circuit: &Circuit,
+    lines: usize,
+    test: &[u8],
+    faults: &[u8],
+    plan: &[u8],
+)
+    requires { ⌜ lines ≤ 6 ⌝ }
+{
+    let records = &circuit[..];
+    let end = 12 * lines;
+    list_whole(title, &records[0..end], test, faults, plan);
+}
+
+// The record of line n: its kind, the number of its pins, 1 for an output, and what its pins 1 and 2 name.
+fn put_line(circuit: &mut Circuit, n: usize, kind: u8, pins: u8, out: u8, first: u8, second: u8)
+    requires { ⌜ n < 6 ⌝ }
+{
+    let at = 12 * n;
+    circuit[at] = kind;
+    circuit[at + 1] = pins;
+    circuit[at + 2] = out;
+    circuit[at + 4] = first;
+    circuit[at + 6] = second;
+}
+
+// Specimen A: input 0; flip-flop 1 of 3, output; 2 = NOT 1; 3 = AND 0, 2.
+fn specimen_a() -> Circuit {
+    let mut circuit = [0u8; 72];
+    put_line(&mut circuit, 1, 1, 1, 1, 3, 0);
+    put_line(&mut circuit, 2, 3, 1, 0, 1, 0);
+    put_line(&mut circuit, 3, 4, 2, 0, 0, 2);
+    circuit
+}
+
+// Specimen A with these files.
+fn list_a(title: &[u8], test: &[u8], faults: &[u8], plan: &[u8]) {
+    let circuit = specimen_a();
+    list_lines(title, &circuit, 4, test, faults, plan);
+}
+
+// Files of which some are longer than what was read.
+fn list_longer(title: &[u8], circuit: bool, test: bool, faults: bool, plan: bool) {
+    let longer = Longer {
         circuit,
         test,
         faults,
         plan,
-        Longer {
-            circuit: false,
-            test: false,
-            faults: false,
-            plan: false,
-        },
-    );
-}
-
-// Specimen A, where some files are longer.
-fn list_longer(title: &[u8], circuit: bool, test: bool, faults: bool, plan: bool) {
-    list(
-        title,
-        &CIRCUIT,
-        &TEST,
-        &FAULTS,
-        b"",
-        Longer {
-            circuit,
-            test,
-            faults,
-            plan,
-        },
-    );
+    };
+    let records = specimen_a();
+    list(title, &records, &TEST, &FAULTS, b"", longer);
 }
 
 // The first file that is too long is named, in the order of the files.
@@ -203,7 +187,7 @@ fn list_faults(title: &[u8], area: &Area, size: usize)
     requires { ⌜ size ≤ 65536 ⌝ }
 {
     let faults = &area[..];
-    list_whole(title, &CIRCUIT, &TEST, &faults[0..size], b"");
+    list_a(title, &TEST, &faults[0..size], b"");
 }
 
 // A file of 65,536 bytes is not too long; here each breaks a rule.
@@ -215,9 +199,9 @@ fn full_files() {
         &[0, 0, 0, 1, 0, 0, 0, 1, 0, 0, 0, 1, 0, 0, 0, 1],
     );
     list_whole(b"full circuit", &zeros, &TEST, &FAULTS, b"");
-    list_whole(b"full test", &CIRCUIT, &zeros, &FAULTS, b"");
+    list_a(b"full test", &zeros, &FAULTS, b"");
     list_faults(b"full faults", &faults, 65536);
-    list_whole(b"full plan", &CIRCUIT, &TEST, &FAULTS, &zeros);
+    list_a(b"full plan", &TEST, &FAULTS, &zeros);
 }
 
 // The result area holds the records of 4,096 faults.
@@ -232,67 +216,17 @@ fn many_faults() {
 
 // Refusals that name a record or a byte.
 fn refused_places() {
-    let kind = [
-        0,
-        0,
-        0,
-        0,
-        0,
-        0,
-        0,
-        0,
-        0,
-        0,
-        0,
-        0,
-        1,
-        1,
-        1,
-        0,
-        3,
-        0,
-        0,
-        0,
-        0,
-        0,
-        0,
-        0,
-        3,
-        1,
-        0,
-        0,
-        1,
-        0,
-        0,
-        0,
-        0,
-        0,
-        0,
-        0,
-        10,
-        2,
-        0,
-        0,
-        0,
-        0,
-        2,
-        0,
-        0,
-        0,
-        0,
-        0,
-    ];
-    list_whole(b"kind of record 3", &kind, &TEST, &FAULTS, b"");
-    list_whole(
+    let mut circuit = specimen_a();
+    put_line(&mut circuit, 3, 10, 2, 0, 0, 2);
+    list_lines(b"kind of record 3", &circuit, 4, &TEST, &FAULTS, b"");
+    list_a(
         b"byte 12 of the test",
-        &CIRCUIT,
         &[0, 0, 0, 0, 0, 0, 0, 0, 0, 0, 0, 0, 2],
         &FAULTS,
         b"",
     );
-    list_whole(
+    list_a(
         b"line of fault 2",
-        &CIRCUIT,
         &TEST,
         &[0, 0, 0, 1, 0, 0, 0, 0, 4, 0, 0, 1],
         b"",
@@ -301,128 +235,39 @@ fn refused_places() {
 
 // The work area is as long as 862 time units need: input 0, four flip-flops of it, and 5 = buffer 0, output.
 fn long_tests() {
-    let circuit = [
-        0,
-        0,
-        0,
-        0,
-        0,
-        0,
-        0,
-        0,
-        0,
-        0,
-        0,
-        0,
-        1,
-        1,
-        0,
-        0,
-        0,
-        0,
-        0,
-        0,
-        0,
-        0,
-        0,
-        0,
-        1,
-        1,
-        0,
-        0,
-        0,
-        0,
-        0,
-        0,
-        0,
-        0,
-        0,
-        0,
-        1,
-        1,
-        0,
-        0,
-        0,
-        0,
-        0,
-        0,
-        0,
-        0,
-        0,
-        0,
-        1,
-        1,
-        0,
-        0,
-        0,
-        0,
-        0,
-        0,
-        0,
-        0,
-        0,
-        0,
-        2,
-        1,
-        1,
-        0,
-        0,
-        0,
-        0,
-        0,
-        0,
-        0,
-        0,
-        0,
-    ];
-    let fault = [5, 0, 0, 1];
-    list_whole(b"862 time units", &circuit, &[0; 862], &fault, b"");
-    list_whole(b"863 time units", &circuit, &[0; 863], &fault, b"");
+    let mut circuit = [0u8; 72];
+    put_line(&mut circuit, 1, 1, 1, 0, 0, 0);
+    put_line(&mut circuit, 2, 1, 1, 0, 0, 0);
+    put_line(&mut circuit, 3, 1, 1, 0, 0, 0);
+    put_line(&mut circuit, 4, 1, 1, 0, 0, 0);
+    put_line(&mut circuit, 5, 2, 1, 1, 0, 0);
+    list_lines(
+        b"862 time units",
+        &circuit,
+        6,
+        &[0; 862],
+        &[5, 0, 0, 1],
+        b"",
+    );
+    list_lines(
+        b"863 time units",
+        &circuit,
+        6,
+        &[0; 863],
+        &[5, 0, 0, 1],
+        b"",
+    );
 }
 
 // Specimen B with the plan of two pairs: input 0; flip-flop 1 of 2, output; 2 = AND 0, 1.
 fn with_plan() {
-    let circuit = [
-        0,
-        0,
-        0,
-        0,
-        0,
-        0,
-        0,
-        0,
-        0,
-        0,
-        0,
-        0,
-        1,
-        1,
-        1,
-        0,
-        2,
-        0,
-        0,
-        0,
-        0,
-        0,
-        0,
-        0,
-        4,
-        2,
-        0,
-        0,
-        0,
-        0,
-        1,
-        0,
-        0,
-        0,
-        0,
-        0,
-    ];
-    list_whole(
+    let mut circuit = [0u8; 72];
+    put_line(&mut circuit, 1, 1, 1, 1, 2, 0);
+    put_line(&mut circuit, 2, 4, 2, 0, 0, 1);
+    list_lines(
         b"specimen B",
         &circuit,
+        3,
         &[0, 0],
         &[0, 0, 0, 1],
         &[0, 0, 0, 0, 1, 0, 0, 0],
@@ -430,7 +275,7 @@ fn with_plan() {
 }
 
 fn main() {
-    list_whole(b"specimen A", &CIRCUIT, &TEST, &FAULTS, b"");
+    list_a(b"specimen A", &TEST, &FAULTS, b"");
     with_plan();
     list_whole(b"no files", b"", b"", b"", b"");
     too_long();
