@@ -1,4 +1,4 @@
--- Room, no records, and what stage 1 says.
+-- Room, no records, what stage 1 says, and the promise.
 use mathlib.Core.Path.{_≡_, sym}
 use mathlib.Core.Bool.{true}
 use mathlib.Core.List.{List, []}
@@ -6,13 +6,15 @@ use mathlib.Core.Option.{some, orElse}
 use Prim.Native.Nat.{ℕ, _+_, _*_, _≤_}
 use native.Mathlib.Omega.{arith}
 use native.Mathlib.Nat.{mul-le-mul-left, mul-assoc}
-use lib.ListN.{getD}
+use lib.ListN.{getD, length}
 use Rattle.lists.proofs.Field.{overwritten-none}
 use Rattle.model.specs.Inputs.{F, O, L, Fault}
 use Rattle.model.specs.Accepted.{ValidInputs, ChooseReady}
-use Rattle.model.specs.Refusals.{workBytes}
+use Rattle.model.specs.Refusals.{Answer, workBytes}
 use Rattle.model.specs.Grade.{placed, atPair, stage1, beforeStage5}
-use Rattle.model.specs.Choose.{planBytes}
+use Rattle.model.specs.Choose.{planBytes, chooseAnswer, chooseArea}
+use Rattle.model.specs.Promises.{ChoosesWell}
+use Rattle.model.proofs.Theorems.{chosen-well}
 use Rattle.lanes.specs.Lane.{bit}
 use Rattle.circuit.specs.Table.{Tables}
 use Rattle.job.specs.Job.{JobOf}
@@ -51,3 +53,8 @@ pub decided-first : (c t : List ℕ) (f : Fault) (firsts : Firsts) (lane : ℕ) 
     → beforeStage5 c t f ≡ some (placed 1 (getD times lane 0) (getD lines lane 0))
 unfolding beforeStage5 stage1 atPair orElse
 decided-first c t f firsts lane times lines known e = rw (known .place, e)
+
+-- the promise, of an answer and an area that are the definitions'
+pub promised : (c t fs : List ℕ) (k work : ℕ) (old : List ℕ) (answer : Answer) (new : List ℕ) → answer ≡ chooseAnswer c t fs k work (length old) → new ≡ chooseArea c t fs k work old
+    → ChoosesWell c t fs k answer new
+promised c t fs k work old answer new same written = rw (same, written) (chosen-well c t fs k work old)

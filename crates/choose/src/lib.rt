@@ -8,7 +8,7 @@ ghost use Rattle.model.specs.Accepted.{ChooseReady, ValidFault};
 ghost use Rattle.model.specs.Refusals.{chooseRefusal, unlessRefused};
 ghost use Rattle.model.specs.Grade.{stage1};
 ghost use Rattle.model.specs.Choose.{chosen, chooseAnswer, chooseArea};
-ghost use Rattle.model.specs.Promises.{WellChosen};
+ghost use Rattle.model.specs.Promises.{ChoosesWell};
 ghost use Rattle.faults.specs.Given.{Blank};
 ghost use Rattle.job.specs.Job.{answerOf, JobOf};
 ghost use Rattle.stages.specs.Stages.{Tabled, Standing};
@@ -229,8 +229,7 @@ pub fn choose(
     ensures answers { λ r. ⌜ answerOf r ≡ chooseAnswer (now (circuit .entry)) (now (test .entry)) (now (faults .entry)) k (length (now (work .entry))) (length (now (result .entry))) ⌝ }
     ensures writes { λ r. ⌜ now (result .exit) ≡ chooseArea (now (circuit .entry)) (now (test .entry)) (now (faults .entry)) k (length (now (work .entry))) (now (result .entry)) ⌝ }
     ensures keeps { λ r. ⌜ now (work .exit) ≡ unlessRefused (chooseRefusal (now (circuit .entry)) (now (test .entry)) (now (faults .entry)) k (length (now (work .entry))) (length (now (result .entry)))) (now (work .exit)) (now (work .entry)) ⌝ }
-    ensures promise { λ r. ⌜ (chooseRefusal (now (circuit .entry)) (now (test .entry)) (now (faults .entry)) k (length (now (work .entry))) (length (now (result .entry))) ≡ none
-        → WellChosen (now (circuit .entry)) (now (test .entry)) (faultAt (now (faults .entry)) 0) k) ⌝ }
+    ensures promise { λ r. ⌜ ChoosesWell (now (circuit .entry)) (now (test .entry)) (now (faults .entry)) k (answerOf r) (now (result .exit)) ⌝ }
 {
     match job::check_choose(circuit, test, faults, k, work.len(), result.len()) {
         JobCheck::Broken { rule, at } => Outcome::Refused { rule, at },

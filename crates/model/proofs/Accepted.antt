@@ -1,9 +1,9 @@
 -- What is not refused is as the proofs want it: the rows of the table, read backwards.
-use mathlib.Core.Path.{_≡_, refl, sym, _∙_}
+use mathlib.Core.Path.{_≡_, refl, sym, _∙_, ap}
 use Prim.Native.Nat.{ℕ, zero, suc, _+_, _*_, _/_, _%_, _≤_, _<_}
 use mathlib.Core.Bool.{Bool, true, false, cond, not, _&&_, _||_, true≢false}
 use mathlib.Core.List.{List, [], _∷_}
-use mathlib.Core.Option.{none, some, Option·some-ne-none}
+use mathlib.Core.Option.{Option, none, some, Option·getD, Option·none-ne-some, Option·some-ne-none}
 use mathlib.Mathlib.Data.Option.Basic.{orElse-eq-none}
 use lib.ListN.{getD, length}
 use lib.Dec.{eqb, leb, ltb}
@@ -287,6 +287,16 @@ groupReady vs result e =
     }
 
 -- ---- what a call returns and leaves in its result area, accepted or refused
+sizeOf : Answer → Option ℕ
+sizeOf (done n) = some n
+sizeOf (refused a b) = none
+
+-- a call that is done was not refused
+pub answered : (r : Refusal) (size n : ℕ) → answer r size ≡ done n → (r ≡ none) × (size ≡ n)
+unfolding answer sizeOf
+answered none size n e = (refl, ap (λ a. Option·getD (sizeOf a) 0) e)
+answered (some q) size n e = absurd (Option·none-ne-some n (ap sizeOf e))
+
 module _ (r : Refusal) where
   pub answer-done : (size : ℕ) → r ≡ none → answer r size ≡ done size
   unfolding answer

@@ -182,25 +182,25 @@ module _ (c t : List ℕ) (f : Fault) where
   unfolding counted
   m-after p k = after-case (λ (v : Verdict). v .m ≡ length (taken c t f p k)) c t f p k (λ _. refl) (λ _ _. refl) (λ _ _ _. refl) (λ _. refl)
 
-  carried : (k : ℕ) → taken c t f (planBytes (chosen c t f k)) k ≡ chosen c t f k → grade c t f (planBytes (chosen c t f k)) k .m ≡ length (chosen c t f k)
-  carried k e =
-      grade-cases (λ (v : Verdict). v .m ≡ length (chosen c t f k)) c t f (planBytes (chosen c t f k)) k
-      (λ v d. m-before v d ∙ sym (ap length (chosen-decided k v d))) (λ d. m-after _ k d ∙ ap length e)
-
-  pub well-chosen : (k : ℕ) → L c t ≤ 65536 → F c ≤ 65536 → k ≤ 4096 → WellChosen c t f k
+  pub well-chosen : (k : ℕ) → L c t ≤ 65536 → F c ≤ 65536 → k ≤ 4096 → WellChosen c t f k (length (chosen c t f k)) (planBytes (chosen c t f k))
   unfolding chosen Chain
   well-chosen k a b most =
-      let h : Chain (chosen c t f k) × (length (chosen c t f k) ≤ k) = chosen-chain k (beforeStage5 c t f) in
-      let whole : taken c t f (planBytes (chosen c t f k)) k ≡ chosen c t f k =
-      taken-plan (chosen c t f k) k (h .0) (chain-fields (chosen c t f k) a b (h .0)) (h .1) in
+      let pairs = chosen c t f k in
+      let p = planBytes pairs in
+      let h : Chain pairs × (length pairs ≤ k) = chosen-chain k (beforeStage5 c t f) in
+      let fields : InFields pairs = chain-fields pairs a b (h .0) in
+      let whole : taken c t f p k ≡ pairs = taken-plan pairs k (h .0) fields (h .1) in
       record {
+        size = length-plan pairs;
         fits = h .1;
-        accepted = plan-accepted (chosen c t f k) (omega (arith, h .1));
-        taken = whole;
-        best = λ n l u i e. nextPair-best c t f (take n (chosen c t f k)) _ (h .0 n l) u i e;
-        decided = chosen-decided k;
-        carried = carried k whole;
+        accepted = plan-accepted pairs (omega (arith, h .1));
+        allTaken = ap length whole;
+        best = λ m l. rw (takenOf-plan pairs k (h .0) fields (h .1) m (omega arith), plan-back pairs fields m l) (nextPair-best c t f (take m pairs) _ (h .0 m l));
+        decided = λ v e. ap length (chosen-decided k v e);
+        carried =
+            grade-cases (λ (v : Verdict). v .m ≡ length pairs) c t f p k
+            (λ v d. m-before v d ∙ sym (ap length (chosen-decided k v d))) (λ d. m-after p k d ∙ ap length whole);
         stops = λ e l u i.
-            let same : chosen c t f k ≡ bestPairs c t f k = chosen-undecided k e in
-            rw same (nextPair-none c t f (bestPairs c t f k) (bestPairs-short k (omega (arith, ap length same))) u i);
+            let same : pairs ≡ bestPairs c t f k = chosen-undecided k e in
+            rw (whole, same) (nextPair-none c t f (bestPairs c t f k) (bestPairs-short k (omega (arith, ap length same))) u i);
       }

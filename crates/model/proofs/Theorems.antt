@@ -1,10 +1,11 @@
 -- The theorems, for every accepted job. What `reads-back`, `own-fault`, `fault-free` and `graded-groups` say is stated here alone, what the
 -- others say in specs/Promises.
 use mathlib.Core.Path.{_≡_, sym, ap, _∙_}
-use Prim.Native.Nat.{ℕ, _<_}
+use Prim.Native.Nat.{ℕ, _*_, _<_}
 use mathlib.Core.List.{List}
 use mathlib.Core.Option.{none}
-use lib.ListN.{length}
+use lib.ListN.{length, take}
+use lib.Seq.{take-at}
 use native.Mathlib.Omega.{arith}
 use mathlib.Core.Bool.{false}
 use borrow.Author.Tests.{ne-eqb}
@@ -13,12 +14,14 @@ use Rattle.model.specs.Refusals.{circuitRows, inputRows, gradeRefusal, c
 use Rattle.model.specs.Accepted.{ValidCircuit, GradeReady, ChooseReady}
 use Rattle.model.specs.Simulation.{noFault, isStuck}
 use Rattle.model.specs.Grade.{grade, recordBytes, recordAt, gradeBytes, gradeArea}
-use Rattle.model.specs.Promises.{EveryStart, Demand3, InBounds, recordPart, WellChosen, PinsOpen, ClearLists}
-use Rattle.model.proofs.Accepted.{validCircuit, validInputs, faultJob, gradeReady, chooseReady}
+use Rattle.lists.specs.Field.{overwritten}
+use Rattle.model.specs.Choose.{chosen, planBytes, chooseAnswer, chooseArea}
+use Rattle.model.specs.Promises.{EveryStart, Demand3, InBounds, recordPart, WellChosen, ChoosesWell, PinsOpen, ClearLists}
+use Rattle.model.proofs.Accepted.{validCircuit, validInputs, faultJob, gradeReady, chooseReady, answered, area-done}
 use Rattle.model.proofs.Promise.{promise}
 use Rattle.model.proofs.Bounds.{bounds}
 use Rattle.model.proofs.Records.{length-gradeBytes, group-accepts, area-part, area-record}
-use Rattle.model.proofs.Choose.{well-chosen}
+use Rattle.model.proofs.Choose.{length-plan, well-chosen}
 use Rattle.model.proofs.Starts.{every-start}
 use Rattle.model.proofs.Open.{pins-open}
 use Rattle.model.proofs.Apart.{sequence-clear}
@@ -53,12 +56,18 @@ own-fault c t fs gs p k work room old held e d j i h l same =
     ∙ ap (λ (f : Fault). recordBytes (grade c t f p k)) same
     ∙ sym (area-part c t gs p k room held d i l)
 
--- Choose's pairs, for every job that it accepts
-pub chosen-well : (c t fs : List ℕ) (k work result : ℕ) → chooseRefusal c t fs k work result ≡ none → WellChosen c t (faultAt fs 0) k
-chosen-well c t fs k work result e =
-    let ready : ChooseReady c t fs k work result = chooseReady c t fs k work result e in
-    well-chosen c t (faultAt fs 0) k
-    (omega (arith, ready .inputs .test .most)) (omega (arith, ready .inputs .circuit .flipFlops)) (omega (arith, ready .limit))
+-- Choose's pairs, of the bytes that it writes
+pub chosen-well : (c t fs : List ℕ) (k work : ℕ) (old : List ℕ) → ChoosesWell c t fs k (chooseAnswer c t fs k work (length old)) (chooseArea c t fs k work old)
+unfolding chooseAnswer chooseArea overwritten
+chosen-well c t fs k work old n e =
+    let pairs = chosen c t (faultAt fs 0) k in
+    let done = answered (chooseRefusal c t fs k work (length old)) (length pairs) n e in
+    let ready : ChooseReady c t fs k work (length old) = chooseReady c t fs k work (length old) (done .0) in
+    let well : WellChosen c t (faultAt fs 0) k (length pairs) (planBytes pairs) =
+    well-chosen c t (faultAt fs 0) k (omega (arith, ready .inputs .test .most)) (omega (arith, ready .inputs .circuit .flipFlops)) (omega (arith, ready .limit)) in
+    let front : take (4 * length pairs) (chooseArea c t fs k work old) ≡ planBytes pairs =
+    ap (take (4 * length pairs)) (area-done _ _ _ (done .0)) ∙ take-at (planBytes pairs) _ (4 * length pairs) (length-plan pairs) in
+    rw (← done .1, front) well
 
 -- the fault-free circuit has no stuck line or pin: `noFault` names no line of a circuit that is accepted
 pub fault-free : (c : List ℕ) → circuitRows c ≡ none → (n pin : ℕ) → n < N c → isStuck noFault n pin ≡ false

@@ -1,22 +1,22 @@
--- What is promised of the bytes that Grade writes, for every accepted job, and of the pairs that Choose writes; and what holds of the
+-- What is promised of the bytes that Grade writes, for every accepted job, and of those that Choose writes; and what holds of the
 -- definitions, so that they say what document 01 does. The theorems are in proofs/Theorems.
 use mathlib.Core.Path.{_≡_}
 use mathlib.Core.Logic.{_↔_}
 use Prim.Native.Nat.{ℕ, suc, _+_, _*_, _^_, _≤_, _<_}
 use mathlib.Core.Bool.{Bool, true, false, _||_}
-use mathlib.Core.List.{List, []}
+use mathlib.Core.List.{List}
 use mathlib.Core.Option.{none, some}
 use lib.ListN.{getD, length, take, drop}
 use lib.Dec.{eqb}
-use Rattle.model.specs.Inputs.{pinLine, flipFlopLine, F, L, Fault, faultCount, faultAt}
-use Rattle.model.specs.Refusals.{row11, gradeRefusal}
+use Rattle.model.specs.Inputs.{pinLine, flipFlopLine, F, L, Fault, faultCount, faultAt, planPair}
+use Rattle.model.specs.Refusals.{Answer, done, row11, gradeRefusal}
 use Rattle.model.specs.Values.{X, hasConflict}
 use Rattle.model.specs.Starts.{freeBits, startingState, startCount, differs}
 use Rattle.model.specs.Simulation.{plainValues}
 use Rattle.model.specs.Expansion.{tried}
-use Rattle.model.specs.Sequences.{takes, taken, sequenceRow}
+use Rattle.model.specs.Sequences.{takes, takenOf, taken, sequenceRow}
 use Rattle.model.specs.Grade.{Verdict, recordAt, stage4, beforeStage5, grade}
-use Rattle.model.specs.Choose.{better, chosen, planBytes}
+use Rattle.model.specs.Choose.{better}
 
 -- st gives each flip-flop's state bit 0 or 1
 pub record Setting (c st : List ℕ) : Type 0 where
@@ -82,18 +82,22 @@ pub record InBounds (k : ℕ) (v : Verdict) : Type 0 where
 abbrev pub recordPart : List ℕ → ℕ → List ℕ
 recordPart area j = take 16 (drop (16 * j) area)
 
--- Of the pairs that Choose writes. It writes up to k plan records, and Grade accepts them as a plan. Every pair is taken by Grade with the
--- same k and just these pairs as the plan. None that could be taken in its place is better. None is written for verdicts 1, 2, 5. Grade's
--- record carries their number as m. Choose stops early only when no pair could be taken.
-pub record WellChosen (c t : List ℕ) (f : Fault) (k : ℕ) : Type 0 where
-  pub fits : length (chosen c t f k) ≤ k
-  pub accepted : row11 (planBytes (chosen c t f k)) ≡ none
-  pub taken : taken c t f (planBytes (chosen c t f k)) k ≡ chosen c t f k
-  pub best : (n : ℕ) → n < length (chosen c t f k) → (u i : ℕ) → takes c t f (take n (chosen c t f k)) u i ≡ true
-      → better c t f u i (getD (chosen c t f k) n (0, 0) .0) (getD (chosen c t f k) n (0, 0) .1) ≡ false
-  pub decided : (v : Verdict) → beforeStage5 c t f ≡ some v → chosen c t f k ≡ []
-  pub carried : grade c t f (planBytes (chosen c t f k)) k .m ≡ length (chosen c t f k)
-  pub stops : beforeStage5 c t f ≡ none → length (chosen c t f k) < k → (u i : ℕ) → takes c t f (chosen c t f k) u i ≡ false
+-- Of a plan p of n pairs, read as Grade reads it: what holds of the bytes that Choose writes. There are up to k pairs, and Grade accepts them
+-- as a plan. Every pair is taken by Grade with the same k and just these pairs as the plan. None that could be taken in its place is better.
+-- None is written for verdicts 1, 2, 5. Grade's record carries their number as m. Choose stops early only when no pair could be taken.
+pub record WellChosen (c t : List ℕ) (f : Fault) (k n : ℕ) (p : List ℕ) : Type 0 where
+  pub size : length p ≡ 4 * n
+  pub fits : n ≤ k
+  pub accepted : row11 p ≡ none
+  pub allTaken : length (taken c t f p k) ≡ n
+  pub best : (m : ℕ) → m < n → (u i : ℕ) → takes c t f (takenOf c t f p k m) u i ≡ true → better c t f u i (planPair p m .0) (planPair p m .1) ≡ false
+  pub decided : (v : Verdict) → beforeStage5 c t f ≡ some v → n ≡ 0
+  pub carried : grade c t f p k .m ≡ n
+  pub stops : beforeStage5 c t f ≡ none → n < k → (u i : ℕ) → takes c t f (taken c t f p k) u i ≡ false
+
+-- that of the bytes at the beginning of an area that Choose has written, as many as its answer says: a clause of Choose's contract
+abbrev pub ChoosesWell : List ℕ → List ℕ → List ℕ → ℕ → Answer → List ℕ → Type 0
+ChoosesWell c t fs k answer new = (n : ℕ) → answer ≡ done n → WellChosen c t (faultAt fs 0) k n (take (4 * n) new)
 
 -- A flip-flop's pin line that is given a value has X in plain simulation, so the value never meets the opposite one: of a pair that stage 3
 -- tries, and of one that stage 5 takes.

@@ -4,9 +4,9 @@ use lib.ListN.{length}
 use Rattle.model.specs.Refusals.{chooseRefusal}
 use Rattle.model.specs.Choose.{chooseAnswer, chooseArea}
 use Rattle.model.proofs.Accepted.{chooseReady, answer-done, answer-refused, area-done, area-refused}
-use Rattle.model.proofs.Theorems.{chosen-well}
 use Rattle.job.specs.Job.{answerOf}
 use Rattle.job.proofs.Laws.{ready-none, broken-some}
+use Rattle.choose.proofs.Laws.{promised}
 use borrow.Author.Needs.{needs}
 use Rattle.choose.proofs.choose.Statement.{statement}
 use Rattle.choose.proofs.choose.Tie as tie
@@ -37,7 +37,9 @@ unfolding answerOf chooseAnswer chooseArea
 returns c =
     let check = c .before .before .before in
     let broken = broken-some (check .check-choose .ensures) (c .before .rule .given .1) in
-    (sym (answer-refused _ _ _ broken), (sym (area-refused _ _ _ _ broken), (sym (area-refused _ _ _ _ broken), λ e. chosen-well _ _ _ _ _ _ e)))
+    let answer = sym (answer-refused _ _ _ broken) in
+    let area = sym (area-refused _ _ _ _ broken) in
+    (answer, (area, (sym (area-refused _ _ _ _ broken), promised _ _ _ _ _ (start check .args .result .now) _ _ answer area)))
 
 returns-2 : tie.Need-returns-2
 unfolding answerOf chooseAnswer chooseArea
@@ -45,7 +47,9 @@ returns-2 c =
     let job = case (ran c .before) in
     let none = passed job in
     let written = ran c .choose-job .ensures in
-    (rw (written .count) (sym (answer-done _ _ none)), (written .area ∙ sym (area-done _ _ _ none), (sym (area-done _ _ _ none), λ e. chosen-well _ _ _ _ _ _ e)))
+    let answer = rw (written .count) (sym (answer-done _ _ none)) in
+    let area = written .area ∙ sym (area-done _ _ _ none) in
+    (answer, (area, (sym (area-done _ _ _ none), promised _ _ _ _ _ (start (checked job) .args .result .now) _ _ answer area)))
 
 pub choose-spec : {M : Type 1} → statement M
 choose-spec =
