@@ -9,10 +9,6 @@ unfoldable pub Below : ℕ → List ℕ → Type 0
 Below bound [] = Unit {0}
 Below bound (n ∷ ns) = (n < bound) × Below bound ns
 
--- the bytes of a print: 4,096 lines of at most 72
-abbrev pub printRoom : ℕ
-printRoom = 294912
-
 -- a print that held `old` up to `at` holds `new` behind it, up to `r`
 pub record Put (at r : ℕ) (new old out : List ℕ) : Type 0 where
   pub end : r ≡ at + length new

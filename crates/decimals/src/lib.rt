@@ -3,10 +3,7 @@ ghost use mathlib.Core.List.{[], _∷_, _++_};
 ghost use Prim.Native.Nat.{_+_, _%_, _<_, _≤_};
 ghost use lib.ListN.{length};
 ghost use Rattle.model.specs.Listing.{decimal, numberLine};
-ghost use Rattle.decimals.specs.Put.{printRoom, Put};
-
-// What a program prints, filled from its beginning: 4,096 lines of at most 72 bytes.
-pub type Print = [u8; 294912];
+ghost use Rattle.decimals.specs.Put.{Put};
 
 // One byte. Each function here answers where the next byte goes.
 pub fn put_byte(out: &mut [u8], at: usize, byte: u8) -> usize
@@ -18,16 +15,16 @@ pub fn put_byte(out: &mut [u8], at: usize, byte: u8) -> usize
 }
 
 // The last digit of a number.
-fn put_digit(out: &mut Print, at: usize, n: usize) -> usize
-    requires { ⌜ at < printRoom ⌝ }
+fn put_digit(out: &mut [u8], at: usize, n: usize) -> usize
+    requires { ⌜ at < length (now out) ⌝ }
     ensures { λ r. ⌜ Put at r ((48 + n % 10) ∷ []) (now (out .entry)) (now (out .exit)) ⌝ }
 {
     put_byte(out, at, 48 + (n % 10) as u8)
 }
 
 // A number: what stands before its last digit, and that digit.
-pub fn put_number(out: &mut Print, at: usize, n: usize) -> usize
-    requires { ⌜ at + length (decimal n) ≤ printRoom ⌝ }
+pub fn put_number(out: &mut [u8], at: usize, n: usize) -> usize
+    requires { ⌜ at + length (decimal n) ≤ length (now out) ⌝ }
     ensures { λ r. ⌜ Put at r (decimal n) (now (out .entry)) (now (out .exit)) ⌝ }
 {
     if n < 10 {
@@ -38,8 +35,8 @@ pub fn put_number(out: &mut Print, at: usize, n: usize) -> usize
 }
 
 // A number and the byte that follows it.
-pub fn put_field(out: &mut Print, at: usize, n: usize, after: u8) -> usize
-    requires { ⌜ at + length (decimal n) < printRoom ⌝ }
+pub fn put_field(out: &mut [u8], at: usize, n: usize, after: u8) -> usize
+    requires { ⌜ at + length (decimal n) < length (now out) ⌝ }
     ensures { λ r. ⌜ Put at r (decimal n ++ (after ∷ [])) (now (out .entry)) (now (out .exit)) ⌝ }
 {
     let end = put_number(out, at, n);
@@ -47,8 +44,8 @@ pub fn put_field(out: &mut Print, at: usize, n: usize, after: u8) -> usize
 }
 
 // Numbers with a space between, and byte 10 at the end.
-pub fn put_line(out: &mut Print, from: usize, fields: &[usize]) -> usize
-    requires { ⌜ (0 < length (now fields)) × (from + length (numberLine (now fields)) ≤ printRoom) ⌝ }
+pub fn put_line(out: &mut [u8], from: usize, fields: &[usize]) -> usize
+    requires { ⌜ (0 < length (now fields)) × (from + length (numberLine (now fields)) ≤ length (now out)) ⌝ }
     ensures { λ r. ⌜ Put from r (numberLine (now (fields .entry))) (now (out .entry)) (now (out .exit)) ⌝ }
 {
     let last = fields.len() - 1;

@@ -11,9 +11,6 @@ ghost use Rattle.group.specs.Groups.{KeyOf, Sought};
 use job::Outcome;
 use rules::Check;
 
-// A number for each group: there are no more of them than records.
-type Numbers = [usize; 32768];
-
 // The key of record j: verdict, time and line in one number.
 fn key_of(verdicts: &[u8], j: usize) -> usize
     requires { ⌜ 16 * j + 16 ≤ length (now verdicts) ⌝ }
@@ -27,8 +24,8 @@ fn key_of(verdicts: &[u8], j: usize) -> usize
 }
 
 // The first place whose key is the one at place `count`. The search ends there at the latest, so each place costs one comparison.
-fn find(keys: &Numbers, count: usize) -> usize
-    requires { ⌜ count < 32768 ⌝ }
+fn find(keys: &[usize], count: usize) -> usize
+    requires { ⌜ count < length (now keys) ⌝ }
     ensures { λ r. ⌜ Sought (now (keys .entry)) count r ⌝ }
 {
     let key = keys[count];
@@ -39,23 +36,39 @@ fn find(keys: &Numbers, count: usize) -> usize
     x
 }
 
-// The groups of accepted records. A record's key and position stand behind those of the groups so far; they stay there if it starts a group.
-fn write_groups(verdicts: &[u8], result: &mut [u8])
-    requires { ⌜ GroupReady (now verdicts) (length (now result)) ⌝ }
+// The groups of accepted records, with room lent for as many groups as there are records. A record's key and position stand behind those of
+// the groups so far; they stay there if it starts a group.
+pub fn write_groups(verdicts: &[u8], keys: &mut [usize], firsts: &mut [usize], result: &mut [u8])
+    requires { ⌜ (GroupReady (now verdicts) (length (now result)))
+        × (length (now verdicts) ≤ 16 * length (now keys)) × (length (now verdicts) ≤ 16 * length (now firsts)) ⌝ }
     ensures { λ _. ⌜ now (result .exit) ≡ overwritten (groupBytes (now (verdicts .entry))) (now (result .entry)) ⌝ }
 {
-    let mut keys = [0usize; 32768];
-    let mut firsts = [0usize; 32768];
     let size = verdicts.len() / 16;
     let mut count: usize = 0;
     let mut j: usize = 0;
     while j < size {
         keys[count] = key_of(verdicts, j);
         firsts[count] = j;
-        let x = find(&keys, count);
+        let x = find(keys, count);
         record::put16(result, 2 * j, firsts[x]);
         count += basics::one_if(x == count);
         j += 1;
+    }
+}
+
+// The same. Few records do with a room that is cleared sooner.
+fn group_accepted(verdicts: &[u8], result: &mut [u8])
+    requires { ⌜ GroupReady (now verdicts) (length (now result)) ⌝ }
+    ensures { λ _. ⌜ now (result .exit) ≡ overwritten (groupBytes (now (verdicts .entry))) (now (result .entry)) ⌝ }
+{
+    if verdicts.len() <= 4096 {
+        let mut keys = [0usize; 256];
+        let mut firsts = [0usize; 256];
+        write_groups(verdicts, &mut keys, &mut firsts, result);
+    } else {
+        let mut keys = [0usize; 32768];
+        let mut firsts = [0usize; 32768];
+        write_groups(verdicts, &mut keys, &mut firsts, result);
     }
 }
 
@@ -67,7 +80,7 @@ pub fn group(verdicts: &[u8], result: &mut [u8]) -> Outcome
     match job::check_group(verdicts, result.len()) {
         Check::Broken { rule, at } => Outcome::Refused { rule, at },
         Check::Passed => {
-            write_groups(verdicts, result);
+            group_accepted(verdicts, result);
             Outcome::Done(verdicts.len() / 16)
         }
     }

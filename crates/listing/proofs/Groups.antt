@@ -9,10 +9,8 @@ use Rattle.lists.specs.Field.{word16, bytes16, overwritten, rowOf}
 use Rattle.lists.proofs.Scan.{given-cases, first-some}
 use Rattle.lists.proofs.Field.{word-back, word-of-part, rows-written}
 use Rattle.model.specs.Inputs.{faultCount}
-use Rattle.model.specs.Group.{alike, groupOf, groupBytes, groupArea}
+use Rattle.model.specs.Group.{alike, groupOf, groupBytes}
 use Rattle.model.specs.Listing.{faultLine, gradedLines}
-use Rattle.model.proofs.Accepted.{area-done}
-use Rattle.model.proofs.Records.{group-accepts}
 use Rattle.listing.specs.Print.{faultFields, linesBelow}
 
 -- a group is a position no higher than the record's own
@@ -20,12 +18,7 @@ group-low : (vs : List ℕ) (j : ℕ) → groupOf vs j ≤ j
 unfolding groupOf
 group-low vs j = given-cases (λ g. g ≤ j) (first (λ a. alike vs a j) j) j (λ m e. omega (arith, first-some (λ a. alike vs a j) j m e .below)) (λ _. omega arith)
 
--- the area that Group leaves, where the records fit the program's area
-pub group-written : (vs old area : List ℕ) (n : ℕ) → length vs ≡ 16 * n → n ≤ 4096 → length old ≡ 65536 → area ≡ groupArea vs old → area ≡ overwritten (groupBytes vs) old
-unfolding groupArea
-group-written vs old area n long few room e = e ∙ area-done _ _ _ (rw room (group-accepts vs n long (omega arith)))
-
--- and its 16-bit numbers
+-- the 16-bit numbers of the area that holds the groups
 group-read : (vs old area : List ℕ) (j : ℕ) → area ≡ overwritten (groupBytes vs) old → j < length vs / 16 → j < 65536 → word16 area (2 * j) ≡ groupOf vs j
 unfolding groupBytes rowOf word16 bytes16
 group-read vs old area j e h low =

@@ -14,6 +14,10 @@ use Rattle.decimals.specs.Put.{Put}
 use Rattle.decimals.proofs.Laws.{line-short, put-then}
 use Rattle.listing.specs.Print.{faultFields, FieldsOf, linesBelow}
 
+-- what is appended may be written another way
+pub put-same : {at r : ℕ} {a b old out : List ℕ} → a ≡ b → Put at r a old out → Put at r b old out
+put-same e p = rw e at p
+
 -- ---- text
 pub put-none : (at : ℕ) (old : List ℕ) → Put at at [] old old
 put-none at old = record { end = omega arith; bytes = sym (append-nil (take at old)) }
@@ -23,7 +27,7 @@ pub put-next : {from at r : ℕ} {old mid out : List ℕ} (text : List ℕ) (i :
 put-next text i h p q = rw (add-one, take-suc text i 0 h) (put-then p q)
 
 pub put-whole : {from r : ℕ} {old out : List ℕ} (text : List ℕ) (i : ℕ) → length text ≤ i → Put from r (take i text) old out → Put from r text old out
-put-whole text i h p = rw (take-all i text h) at p
+put-whole text i h p = put-same (take-all i text h) p
 
 -- ---- the line of a fault
 pub fields-long : {fs records groups fields : List ℕ} {j : ℕ} → FieldsOf fs records groups j fields → length fields ≡ 12
@@ -44,4 +48,4 @@ unfolding linesBelow gather
 lines-none fs records groups old = put-none 0 old
 
 pub lines-all : {r n m : ℕ} {old out : List ℕ} (fs records groups : List ℕ) → n ≡ m → Put 0 r (linesBelow fs records groups n) old out → Put 0 r (linesBelow fs records groups m) old out
-lines-all fs records groups e p = rw e at p
+lines-all fs records groups e p = put-same (ap (linesBelow fs records groups) e) p

@@ -2,7 +2,7 @@
 use mathlib.Core.Path.{_≡_}
 use mathlib.Core.Bool.{Bool}
 use mathlib.Core.List.{List, [], _∷_, _++_}
-use Prim.Native.Nat.{ℕ, _+_, _*_, _≤_}
+use Prim.Native.Nat.{ℕ, _+_, _*_, _/_, _≤_, min}
 use lib.Dec.{ltb}
 use lib.ListN.{length, take}
 use Rattle.lists.specs.Scan.{gather}
@@ -34,12 +34,17 @@ pub record FieldsOf (fs records groups : List ℕ) (j : ℕ) (fields : List ℕ)
 unfoldable pub linesBelow : List ℕ → List ℕ → List ℕ → ℕ → List ℕ
 linesBelow fs records groups n = gather (λ j. numberLine (faultFields fs records groups j)) n
 
--- so many faults, each with a record and a group
-pub record Listable (fs records groups : List ℕ) (count : ℕ) : Type 0 where
+-- so many faults, each with a record and a group, and a print of `size` bytes with room for their lines
+pub record Listable (fs records groups : List ℕ) (count size : ℕ) : Type 0 where
   pub faults : 4 * count ≤ length fs
   pub recorded : 16 * count ≤ length records
   pub grouped : 2 * count ≤ length groups
-  pub few : count ≤ 4096
+  pub room : 72 * count ≤ size
+
+-- a print of `size` bytes has room: for a line that is not a fault's, and for a line to each fault, of which no more than 4,096 have records
+pub record PrintRoom (fs : List ℕ) (size : ℕ) : Type 0 where
+  pub line : 100 ≤ size
+  pub lines : 72 * min (length fs / 4) 4096 ≤ size
 
 -- the lines of a job whose files are not too long
 unfoldable pub jobPrint : List ℕ → List ℕ → List ℕ → List ℕ → List ℕ

@@ -1,12 +1,11 @@
 // What the program prints, from what it has read of its four files: `too long` and a name, `refused` and two numbers, or a line for each fault.
 ghost use mathlib.Core.Path.{_≡_};
-ghost use Prim.Native.Nat.{_+_, _*_, _<_, _≤_};
+ghost use Prim.Native.Nat.{_+_, _*_, _≤_};
 ghost use lib.ListN.{length, take};
 ghost use Rattle.model.specs.Inputs.{faultCount};
 ghost use Rattle.model.specs.Listing.{numberLine, refusedLine, tooLongLine, gradedLines};
-ghost use Rattle.decimals.specs.Put.{printRoom, Put};
-ghost use Rattle.listing.specs.Print.{faultFields, FieldsOf, linesBelow, Listable, jobPrint, Printed};
-pub use decimals::Print;
+ghost use Rattle.decimals.specs.Put.{Put};
+ghost use Rattle.listing.specs.Print.{faultFields, FieldsOf, linesBelow, Listable, PrintRoom, jobPrint, Printed};
 use job::Outcome;
 
 // An area that is lent.
@@ -21,8 +20,8 @@ pub struct Longer {
 }
 
 // Bytes as they are.
-fn put_text(out: &mut Print, from: usize, text: &[u8]) -> usize
-    requires { ⌜ from + length (now text) ≤ printRoom ⌝ }
+fn put_text(out: &mut [u8], from: usize, text: &[u8]) -> usize
+    requires { ⌜ from + length (now text) ≤ length (now out) ⌝ }
     ensures { λ r. ⌜ Put from r (now (text .entry)) (now (out .entry)) (now (out .exit)) ⌝ }
 {
     let mut at = from;
@@ -35,8 +34,8 @@ fn put_text(out: &mut Print, from: usize, text: &[u8]) -> usize
 }
 
 // `too long` and the name.
-fn put_too_long(out: &mut Print, name: &[u8]) -> usize
-    requires { ⌜ length (now name) < 100 ⌝ }
+fn put_too_long(out: &mut [u8], name: &[u8]) -> usize
+    requires { ⌜ length (now name) + 10 ≤ length (now out) ⌝ }
     ensures { λ r. ⌜ Put 0 r (tooLongLine (now (name .entry))) (now (out .entry)) (now (out .exit)) ⌝ }
 {
     let words = put_text(out, 0, b"too long ");
@@ -45,7 +44,8 @@ fn put_too_long(out: &mut Print, name: &[u8]) -> usize
 }
 
 // `refused NUMBER POSITION`.
-fn put_refused(out: &mut Print, rule: u8, at: usize) -> usize
+fn put_refused(out: &mut [u8], rule: u8, at: usize) -> usize
+    requires { ⌜ 100 ≤ length (now out) ⌝ }
     ensures { λ r. ⌜ Put 0 r (refusedLine rule at) (now (out .entry)) (now (out .exit)) ⌝ }
 {
     let words = put_text(out, 0, b"refused ");
@@ -81,10 +81,10 @@ fn put_fault(
     records: &[u8],
     groups: &[u8],
     j: usize,
-    out: &mut Print,
+    out: &mut [u8],
     at: usize,
 ) -> usize
-    requires { ⌜ (4 * j + 4 ≤ length (now faults)) × (16 * j + 16 ≤ length (now records)) × (2 * j + 2 ≤ length (now groups)) × (at + 72 ≤ printRoom) ⌝ }
+    requires { ⌜ (4 * j + 4 ≤ length (now faults)) × (16 * j + 16 ≤ length (now records)) × (2 * j + 2 ≤ length (now groups)) × (at + 72 ≤ length (now out)) ⌝ }
     ensures { λ r. ⌜ (Put at r (numberLine (faultFields (now (faults .entry)) (now (records .entry)) (now (groups .entry)) j)) (now (out .entry)) (now (out .exit))) × (r ≤ at + 72) ⌝ }
 {
     let fields = fields_of(faults, records, groups, j);
@@ -92,8 +92,8 @@ fn put_fault(
 }
 
 // The lines of all faults.
-fn put_faults(faults: &[u8], records: &[u8], groups: &[u8], count: usize, out: &mut Print) -> usize
-    requires { ⌜ Listable (now faults) (now records) (now groups) count ⌝ }
+fn put_faults(faults: &[u8], records: &[u8], groups: &[u8], count: usize, out: &mut [u8]) -> usize
+    requires { ⌜ Listable (now faults) (now records) (now groups) count (length (now out)) ⌝ }
     ensures { λ r. ⌜ Put 0 r (linesBelow (now (faults .entry)) (now (records .entry)) (now (groups .entry)) count) (now (out .entry)) (now (out .exit)) ⌝ }
 {
     let mut at: usize = 0;
@@ -105,21 +105,24 @@ fn put_faults(faults: &[u8], records: &[u8], groups: &[u8], count: usize, out: &
     at
 }
 
-// The lines of a job that Grade has accepted: its records stand at the beginning of the result area.
+// The lines of a job that Grade has accepted: its records stand at the beginning of the result area. They are 4,096 at most, so their groups
+// are written with less room than Group itself makes.
 fn put_graded(
     faults: &[u8],
     count: usize,
     result: &Area,
     groups: &mut Area,
-    out: &mut Print,
+    out: &mut [u8],
 ) -> usize
-    requires { ⌜ (count ≡ faultCount (now faults)) × (count ≤ 4096) ⌝ }
+    requires { ⌜ (count ≡ faultCount (now faults)) × (count ≤ 4096) × (72 * count ≤ length (now out)) ⌝ }
     ensures { λ r. ⌜ Put 0 r (gradedLines (now (faults .entry)) (take (16 * count) (now (result .entry)))) (now (out .entry)) (now (out .exit)) ⌝ }
 {
     let area = &result[..];
     let end = 16 * count;
     let records = &area[..end];
-    group::group(records, groups);
+    let mut keys = [0usize; 4096];
+    let mut firsts = [0usize; 4096];
+    group::write_groups(records, &mut keys, &mut firsts, groups);
     put_faults(faults, records, groups, count, out)
 }
 
@@ -132,8 +135,9 @@ fn put_job(
     work: &mut Area,
     result: &mut Area,
     groups: &mut Area,
-    out: &mut Print,
+    out: &mut [u8],
 ) -> usize
+    requires { ⌜ PrintRoom (now faults) (length (now out)) ⌝ }
     ensures { λ r. ⌜ Put 0 r (jobPrint (now (circuit .entry)) (now (test .entry)) (now (faults .entry)) (now (plan .entry))) (now (out .entry)) (now (out .exit)) ⌝ }
 {
     match grade::grade(circuit, test, faults, plan, 6, work, result) {
@@ -152,8 +156,9 @@ pub fn listing(
     work: &mut Area,
     result: &mut Area,
     groups: &mut Area,
-    out: &mut Print,
+    out: &mut [u8],
 ) -> usize
+    requires { ⌜ PrintRoom (now faults) (length (now out)) ⌝ }
     ensures { λ r. ⌜ Printed (now (circuit .entry)) (now (test .entry)) (now (faults .entry)) (now (plan .entry)) longer r (now (out .exit)) ⌝ }
 {
     if longer.circuit {

@@ -4,7 +4,6 @@ ghost use Prim.Native.Nat.{_<_, _≤_};
 ghost use lib.ListN.{length};
 use listing::Area;
 use listing::Longer;
-use listing::Print;
 
 // The records of at most six lines.
 type Circuit = [u8; 72];
@@ -64,15 +63,14 @@ fn print_bytes(bytes: &[u8]) {
 }
 
 // The print of this size, under its title.
-fn print_titled(title: &[u8], out: &Print, size: usize)
+fn print_titled(title: &[u8], out: &[u8], size: usize)
     requires { ⌜ size ≤ length (now out) ⌝ }
 {
-    let print = &out[..];
     printing::text(title);
     printing::text(b": ");
     printing::number(size);
     printing::text(b" bytes\n");
-    print_bytes(&print[0..size]);
+    print_bytes(&out[0..size]);
 }
 
 // What is made of four files.

@@ -31,7 +31,7 @@ returns-2 : tie.Need-returns-2
 unfolding answerOf groupAnswer groupArea
 returns-2 c =
     let none = passed (c .before .before .before .before) in
-    (sym (answer-done _ _ none), c .before .before .write-groups .ensures ∙ sym (area-done _ _ _ none))
+    (sym (answer-done _ _ none), c .before .before .group-accepted .ensures ∙ sym (area-done _ _ _ none))
 
 pub group-spec : {M : Type 1} → statement M
 group-spec =

@@ -4,16 +4,22 @@ use native.Mathlib.Omega.{arith}
 use borrow.Author.Needs.{needs}
 use lib.ListN.{length, take}
 use lib.Seq.{length-take-le}
-use Rattle.listing.proofs.Groups.{group-written, graded-lines, fault-bytes}
+use Rattle.listing.proofs.Groups.{graded-lines, fault-bytes}
 use Rattle.listing.proofs.put_graded.Statement.{statement}
 use Rattle.listing.proofs.put_graded.Tie as tie
 
 -- places
 abbrev start : tie.After-records → tie.Start
-start c = c .before .before .before
+start c = c .before .before .before .before
 
-abbrev grouped : tie.After-put-faults-arg3 → tie.After-group
-grouped c = c .before .before .before
+abbrev grouped : tie.After-put-faults-arg3 → tie.After-write-groups
+grouped c = c .before .before .before .before .before
+
+abbrev cut : tie.After-write-groups-arg → tie.After-records
+cut c = c .before .before .before
+
+abbrev put : tie.After-slice-known2 → tie.After-put-faults
+put c = c .before .before
 
 -- the records are as many bytes as they should be
 long : (c : tie.After-records) → length (take (16 * start c .args .count) (start c .args .result .now)) ≡ 16 * start c .args .count
@@ -22,18 +28,40 @@ long c = length-take-le _ _ (omega (arith, c .before .area .given .0, start c .p
 slice-aggregate-records : tie.Need-slice-aggregate-records
 slice-aggregate-records c = sym (long c)
 
+write-groups-requires : tie.Need-write-groups-requires
+write-groups-requires c κs =
+    let few = start (cut c) .pre .1 in
+    let whole = long (cut c) in
+    let room = c .write-groups-arg .given .0 .1 in
+    (record { whole = omega arith; most = omega arith; resultRoom = omega arith }, omega arith, omega arith)
+
 put-faults-requires : tie.Need-put-faults-requires
 put-faults-requires c κs =
-    let at = grouped c .before .before in
+    let at = cut (grouped c .before) in
     let s = start at in
-    record { faults = fault-bytes _ _ (s .pre .0); recorded = omega (arith, long at); grouped = omega (arith, c .before .put-faults-arg2 .given .0, s .pre .1); few = s .pre .1 }
+    record {
+      faults = fault-bytes _ _ (s .pre .0);
+      recorded = omega (arith, long at);
+      grouped = omega (arith, c .before .put-faults-arg2 .given .0, s .pre .1);
+      room = s .pre .2;
+    }
 
 returns : tie.Need-returns
 returns c =
-    let at = grouped (c .before) .before .before in
+    let groups = grouped (put c .before) in
+    let at = cut (groups .before) in
     let s = start at in
-    let written = group-written _ _ _ _ (long at) (s .pre .1) (grouped (c .before) .before .group-arg .given .0 .1) (grouped (c .before) .group .ensures .1) in
-    rw (graded-lines _ _ _ _ _ (s .pre .0) (long at) (s .pre .1) written) at (c .put-faults .ensures)
+    rw (graded-lines _ _ _ _ _ (s .pre .0) (long at) (s .pre .1) (groups .write-groups .ensures)) at (put c .put-faults .ensures)
 
 pub put-graded-spec : {M : Type 1} → statement M
-put-graded-spec = tie.close (tie.spec (λ c. search needs) slice-aggregate-records (λ c κs. search needs) put-faults-requires returns)
+put-graded-spec =
+    tie.close
+    (tie.spec
+    (λ c. search needs)
+    slice-aggregate-records
+    (λ c. search needs)
+    (λ c. search needs)
+    write-groups-requires
+    put-faults-requires
+    (λ c. search needs)
+    returns)
