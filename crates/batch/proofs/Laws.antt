@@ -1,82 +1,93 @@
--- The fault-free responses, what stage 1's places say of a verdict, and what a batch asks for.
-use mathlib.Core.Path.{_≡_, sym, _∙_}
-use mathlib.Core.Bool.{true, false}
+-- An area in which records are written in place of marks: what is written behind stays, and what a pack has found.
+use mathlib.Core.Path.{_≡_, sym, ap, _∙_}
+use mathlib.Core.Bool.{true, cond}
 use mathlib.Core.List.{List, _++_}
-use mathlib.Core.Option.{none, orElse}
-use Prim.Native.Nat.{ℕ, _+_, _*_, _-_, _≤_}
+use Prim.Native.Nat.{ℕ, _+_, _*_, _-_, _/_, _<_, _≤_}
 use native.Mathlib.Omega.{arith}
-use native.Mathlib.Nat.{mul-le-mul-left, mul-add}
-use borrow.Author.Tests.{lt-ltb, ltb-false}
-use lib.ListN.{getD, length, take, drop}
-use Rattle.lists.specs.Scan.{gather}
-use Rattle.lists.specs.Field.{overwritten, Rows}
-use Rattle.model.specs.Inputs.{F, O, L, Fault, faultCount, faultAt}
-use Rattle.model.specs.Refusals.{workBytes}
+use lib.ListN.{getD, length, take, drop, length-append, take-append-drop}
+use lib.Seq.{length-take-le, drop-at, drop-drop, getD-drop}
+use Rattle.lists.specs.Field.{overwritten, rowOf}
+use Rattle.lists.proofs.Field.{written-behind}
+use Rattle.lists.proofs.Scan.{countBelow-turn}
+use Rattle.model.specs.Inputs.{L, faultCount, faultAt}
 use Rattle.model.specs.Accepted.{ValidInputs}
-use Rattle.model.specs.Simulation.{noFault, powerUp, outputsAt, freeOutputs}
-use Rattle.fault.proofs.Tables.{response-rows}
-use Rattle.model.specs.Expansion.{nout}
-use Rattle.model.specs.Grade.{Verdict, recordBytes, placed, atPair, stage1, beforeStage5, grade}
-use Rattle.lanes.specs.Lane.{bit, Lane}
-use Rattle.unit.specs.Unit.{Stuck}
+use Rattle.model.specs.Grade.{Verdict, recordBytes}
+use Rattle.model.proofs.Records.{length-record}
 use Rattle.plain.specs.declared.Firsts.{Firsts}
-use Rattle.plain.specs.Places.{Places}
-use Rattle.faults.specs.Given.{Batch, laneFault, Given}
-use Rattle.record.proofs.Laws.{record-behind}
-use Rattle.batch.specs.Batch.{FirstOf, Found, RecordsTo}
+use Rattle.places.specs.Found.{Faults, FirstOf, Found}
+use Rattle.sieve.specs.declared.Pack.{Pack}
+use Rattle.sieve.specs.Sieve.{isMark, marksBelow, Sieved, Packed}
+use Rattle.batch.specs.Batch.{SameFrom, PackFound}
 
--- number 13 asks for room enough for the responses, fault-free and faulty
-pub work-room : (c t : List ℕ) (work : ℕ) → workBytes c t ≤ work → L c t * O c + L c t * O c ≤ work
-unfolding workBytes
-work-room c t work h =
-    let twice : L c t * (O c + O c) ≤ L c t * (4 * O c + 16 * F c + 8) = mul-le-mul-left (L c t) (omega arith) in
-    omega (arith, mul-add (L c t) (O c) (O c))
+-- ---- a record is written
+-- what stands behind it stays
+pub record-kept : (w : Verdict) (j : ℕ) (area end : List ℕ) → 16 * j ≤ length area → end ≡ overwritten (recordBytes w) (take (length area - 16 * j) (drop (16 * j) area))
+    → SameFrom (j + 1) area (take (16 * j) area ++ (end ++ drop (length area - 16 * j) (drop (16 * j) area)))
+unfolding overwritten
+record-kept w j area end h e =
+    let front : length (take (16 * j) area) ≡ 16 * j = length-take-le (16 * j) area h in
+    let size : length (take (16 * j) area ++ recordBytes w) ≡ 16 * (j + 1) = omega (arith, length-append (take (16 * j) area) (recordBytes w), front, length-record w) in
+    let same : area ≡ overwritten (take (16 * j) area) area = rw front (sym (take-append-drop (16 * j) area)) in
+    record {
+      same =
+          ap (drop (16 * (j + 1))) (written-behind (take (16 * j) area) (recordBytes w) area area end (16 * j) same front e)
+          ∙ drop-at (take (16 * j) area ++ recordBytes w) _ (16 * (j + 1)) size ∙ rw size;
+    }
 
--- the run of no fault
-pub free-rows : (c t table old : List ℕ) → table ≡ overwritten (gather (λ u. outputsAt c t noFault (powerUp c) u) (L c t)) old → Rows (O c) (L c t) table (λ u. freeOutputs c t u)
-unfolding freeOutputs
-free-rows c t table old e = response-rows c t noFault table old e
+-- ---- two areas that are the same from record j on
+module _ {before after : List ℕ} {j : ℕ} (kept : SameFrom j before after) where
+  drop-as : (i : ℕ) → j ≤ i → drop (16 * i) after ≡ drop (16 * i) before
+  drop-as i h =
+      let more : 16 * j + (16 * i - 16 * j) ≡ 16 * i = omega arith in
+      rw (← more, ← drop-drop (16 * i - 16 * j) (16 * j) after, ← drop-drop (16 * i - 16 * j) (16 * j) before, kept .same)
 
-module _ (c t : List ℕ) (f : Fault) (firsts : Firsts) (lane : ℕ) (times lines : List ℕ) (known : FirstOf c t f firsts lane times lines) where
-  -- the lane has a place
-  pub graded-1 : bit lane (firsts .found) ≡ true → (p : List ℕ) (k : ℕ) → placed 1 (getD times lane 0) (getD lines lane 0) ≡ grade c t f p k
-  unfolding grade beforeStage5 stage1 atPair orElse
-  graded-1 e p k = rw (known .place, e)
+  pub kept-from : (i : ℕ) → j ≤ i → SameFrom i before after
+  kept-from i h = record { same = drop-as i h }
 
-  -- it has none
-  pub open-first : bit lane (firsts .found) ≡ false → stage1 c t f ≡ none
-  unfolding stage1 atPair
-  open-first e = rw (known .place, e)
+  pub mark-as : (i : ℕ) → j ≤ i → isMark after i ≡ isMark before i
+  unfolding isMark
+  mark-as i h =
+      let first : (area : List ℕ) → getD (drop (16 * i) area) 0 0 ≡ getD area (16 * i) 0 = λ area. getD-drop (16 * i) area 0 0 ∙ (let none : 16 * i + 0 ≡ 16 * i = omega arith in rw none) in
+      rw (← first after, ← first before, drop-as i h)
 
-  -- and nothing is left to show
-  pub none-left : bit lane (firsts .found) ≡ false → bit lane (firsts .left) ≡ false → nout c t f 0 ≡ 0
-  none-left e l = omega (arith, ltb-false 0 (nout c t f 0) (sym (known .left e) ∙ l))
+  pub sieved-as : {c t fs : List ℕ} {from to : ℕ} → from ≤ j → Sieved c t fs from to before → Sieved c t fs j to after
+  unfolding rowOf
+  sieved-as h s = record { at = λ i l b e p k. rw (drop-as i l) (s .at i (omega arith) b (sym (mark-as i l) ∙ e) p k) }
 
-module _ {c t fs : List ℕ} {from count : ℕ} (valid : ValidInputs c t 0 32768 fs) (few : count ≤ 64) (inside : from + count ≤ faultCount fs) where
-  pub batch-of : (n : ℕ) → n ≡ 4096 → Batch fs from count n
-  batch-of n e = record {
-    few = few;
-    room = omega (arith, valid .whole);
-    line = λ s h. let fault = valid .fault (from + s) (omega arith) in omega (arith, fault .line, valid .circuit .lines);
-    pin = λ s h. let fault = valid .fault (from + s) (omega arith) in omega (arith, fault .pin, valid .circuit .few _ (fault .line));
-    value = λ s h. let fault = valid .fault (from + s) (omega arith) in omega (arith, fault .value);
+pub kept-more : {first before after : List ℕ} {j : ℕ} → SameFrom j first before → SameFrom j before after → SameFrom j first after
+kept-more a b = record { same = b .same ∙ a .same }
+
+-- of fewer faults
+pub sieved-part : {c t fs area : List ℕ} {from to most : ℕ} → to ≤ most → Sieved c t fs from most area → Sieved c t fs from to area
+sieved-part h s = record { at = λ i l b e p k. s .at i l (omega arith) e p k }
+
+-- ---- marks are counted
+pub marks-turn : (area : List ℕ) (j : ℕ) → marksBelow area (j + 1) ≡ marksBelow area j + cond (isMark area j) 1 0
+unfolding marksBelow
+marks-turn area j = countBelow-turn (λ i. isMark area i) j
+
+-- ---- a pack
+-- the list's faults, as code counts them
+pub packed-as : {fs area few : List ℕ} {from : ℕ} {pack : Pack} → Packed fs area from (length fs / 4) few pack → Packed fs area from (faultCount fs) few pack
+unfolding faultCount
+packed-as packed = packed
+
+module _ {c t fs area few : List ℕ} {from : ℕ} {pack : Pack} (packed : Packed fs area from (faultCount fs) few pack) where
+  -- its faults are faults of the list
+  pub pack-faults : {least most : ℕ} → ValidInputs c t least most fs → 256 ≤ length few → Faults c few 0 (pack .size)
+  pack-faults valid room = record {
+    few = packed .lanes;
+    room = omega (arith, packed .lanes);
+    valid = λ s h. let none : 0 + s ≡ s = omega arith in let of = packed .faults s h in rw (none, of .2) (valid .fault (of .0) (of .1));
   }
 
-  pub found-of : {free hits masks state times lines : List ℕ} {r : Firsts} → Given fs from count hits masks → ((lane : ℕ) → Lane lane state (powerUp c)) → Rows (O c) (L c t) free (λ u. freeOutputs c t u)
-      → Places c t free count hits masks state times lines r → Found c t fs from count r times lines
-  unfolding laneFault
-  found-of {hits = hits} {masks = masks} given powered frees places = record {
-    of = λ lane h.
-        let stuck : Stuck lane hits masks (faultAt fs (from + lane)) = rw (lt-ltb lane count h) at (given .lanes lane (omega arith)) in
-        record { place = places .first lane _ h stuck (powered lane) frees; left = places .left lane _ h stuck (powered lane) frees };
+  -- what stage 1 finds of them it finds of the faults with a mark
+  pub pack-found : {firsts : Firsts} {units : ℕ} {times lines : List ℕ} → units ≡ L c t → Found c t few 0 (pack .size) units firsts times lines
+      → PackFound c t fs area from (pack .to) firsts times lines
+  pack-found {firsts} {times = times} {lines = lines} all found = record {
+    of = λ j lane l b e counted.
+        let at = packed .at j lane l b e counted in
+        let none : 0 + lane ≡ lane = omega arith in
+        let of : FirstOf c t (faultAt few (0 + lane)) (L c t) firsts lane times lines = rw (← all) (found .of lane (at .0)) in
+        (omega (arith, at .0, packed .lanes), rw (none, at .1) at of);
   }
-
--- ---- the records in an area
-pub records-as : {c t fs plan area old : List ℕ} {k n n′ : ℕ} → n′ ≡ n → RecordsTo c t fs plan k n old area → RecordsTo c t fs plan k n′ old area
-records-as e r = rw e r
-
--- one record more
-pub records-more : {c t fs plan area old end : List ℕ} {k n j : ℕ} (w : Verdict) → j ≡ n → RecordsTo c t fs plan k n old area → w ≡ grade c t (faultAt fs j) plan k
-    → end ≡ overwritten (recordBytes w) (take (length area - 16 * j) (drop (16 * j) area))
-    → RecordsTo c t fs plan k (n + 1) old (take (16 * j) area ++ (end ++ drop (length area - 16 * j) (drop (16 * j) area)))
-records-more {c} {t} {fs} {plan} {k = k} w e r same written = record { all = rw e (record-behind (λ j. grade c t (faultAt fs j) plan k) w _ _ _ _ (rw e at same) (r .all) (rw e at written)) }

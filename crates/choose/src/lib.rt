@@ -151,7 +151,7 @@ fn choose_job(
     let mut moments = [0usize; 64];
     let mut lines = [0usize; 64];
     circuit::list_tables(c, job.lines, &mut pins, &mut flops, &mut outs);
-    batch::write_free(
+    places::write_free(
         c,
         job,
         t,
@@ -166,13 +166,14 @@ fn choose_job(
         &mut states,
         work,
     );
-    let firsts = batch::find_places(
+    let firsts = places::find_places(
         c,
         job,
         t,
         fs,
         0,
         1,
+        job.units,
         work,
         &pins,
         &flops,

@@ -1,21 +1,24 @@
--- The records of a whole list.
-use mathlib.Core.Path.{_≡_, sym}
+-- The tables and the records of a whole list.
+use mathlib.Core.Path.{_≡_, sym, ap, _∙_}
 use mathlib.Core.List.{List}
-use Prim.Native.Nat.{ℕ, _/_, _≤_}
-use lib.ListN.{length}
-use Rattle.lists.specs.Scan.{gather}
+use Prim.Native.Nat.{ℕ, _+_, _*_, _/_, _<_, _≤_}
+use native.Mathlib.Omega.{arith}
+use native.Mathlib.Nat.{mul-le-mul, mul-le-mul-left, mul-assoc, mul-comm}
+use lib.ListN.{length, drop}
 use Rattle.lists.specs.Field.{overwritten}
-use Rattle.lists.proofs.Field.{overwritten-none}
-use Rattle.model.specs.Inputs.{faultCount}
+use Rattle.model.specs.Inputs.{F, O, L, faultCount, faultAt}
+use Rattle.model.specs.Refusals.{workBytes}
 use Rattle.model.specs.Accepted.{GradeReady}
-use Rattle.model.specs.Grade.{gradeBytes, gradeArea}
+use Rattle.model.specs.Grade.{grade, gradeBytes, gradeArea}
 use Rattle.model.specs.Promises.{Demand3}
 use Rattle.model.proofs.Theorems.{demand-three}
 use Rattle.circuit.specs.Table.{Tables}
 use Rattle.job.specs.Job.{JobOf}
 use Rattle.job.specs.declared.Job.{Job}
-use Rattle.stages.specs.Stages.{Gradable}
-use Rattle.batch.specs.Batch.{RecordsTo}
+use Rattle.record.specs.Record.{RecordsOf}
+use Rattle.record.proofs.Laws.{records-over}
+use Rattle.stages.specs.Stages.{Gradable, RowRoom}
+use Rattle.grade.specs.Graded.{TableRoom}
 
 -- what the stages ask for, of an accepted job
 pub gradable : {c t fs plan pins flops outs : List ℕ} {k work result : ℕ} {job : Job} → GradeReady c t fs plan k work result → JobOf c t job → Tables c pins flops outs → Gradable c t plan k job pins flops outs
@@ -27,26 +30,30 @@ gradable ready of tables = record {
 }
 
 -- the faults, as code counts them
-pub count-as : (fs : List ℕ) (n : ℕ) → n ≤ length fs / 4 → n ≤ faultCount fs
+pub count-as : (fs : List ℕ) (n : ℕ) → n < length fs / 4 → n < faultCount fs
 unfolding faultCount
 count-as fs n h = h
 
-pub count-few : (fs : List ℕ) → faultCount fs ≤ 32768 → length fs / 4 ≤ 32768
+pub count-is : (fs : List ℕ) (n : ℕ) → length fs / 4 ≤ n → faultCount fs ≤ n
 unfolding faultCount
-count-few fs h = h
+count-is fs n h = h
 
-pub count-is : (fs : List ℕ) (n : ℕ) → n ≡ length fs / 4 → n ≡ faultCount fs
-unfolding faultCount
-count-is fs n e = e
+-- a table has room for the rows of an accepted job
+pub row-room : {c t fs plan table : List ℕ} {k work result : ℕ} → GradeReady c t fs plan k work result → TableRoom work table → RowRoom c t table
+unfolding workBytes
+row-room {c} {t} ready long =
+    let inputs = ready .inputs in
+    let rows : L c t * (16 * F c) ≤ L c t * (4 * O c + 16 * F c + 8) = mul-le-mul-left (L c t) (omega arith) in
+    let each : L c t * (16 * F c) ≡ 16 * (L c t * F c) = sym (mul-assoc (L c t) 16 (F c)) ∙ ap (λ n. n * F c) (mul-comm (L c t) 16) ∙ mul-assoc 16 (L c t) (F c) in
+    record { room = omega (arith, rows, each, ready .workRoom, long .room, mul-le-mul (inputs .test .most) (inputs .circuit .flipFlops)) }
 
 -- ---- the records in the result area
-pub records-none : (c t fs plan : List ℕ) (k : ℕ) (area : List ℕ) → RecordsTo c t fs plan k 0 area area
-unfolding gather
-records-none c t fs plan k area = record { all = sym (overwritten-none area) }
-
-pub records-all : {c t fs plan old area : List ℕ} {k n : ℕ} → n ≡ faultCount fs → RecordsTo c t fs plan k n old area → area ≡ overwritten (gradeBytes c t fs plan k) old
+-- written behind those of the sieve
+pub records-all : (c t fs plan : List ℕ) (k n : ℕ) (old mid area : List ℕ) → n ≡ faultCount fs → drop (16 * faultCount fs) mid ≡ drop (16 * faultCount fs) old
+    → RecordsOf (λ j. grade c t (faultAt fs j) plan k) n mid area → area ≡ overwritten (gradeBytes c t fs plan k) old
 unfolding gradeBytes
-records-all e r = rw (← e) (r .all)
+records-all c t fs plan k n old mid area e behind r =
+    records-over (λ j. grade c t (faultAt fs j) plan k) (faultCount fs) mid old area (rw e at (r .all)) behind .all
 
 -- demand 3 of an area that is the definition's
 pub promised : (c t fs plan : List ℕ) (k work : ℕ) (old new : List ℕ) → new ≡ gradeArea c t fs plan k work old → Demand3 c t fs plan k work old new

@@ -10,7 +10,8 @@ ghost use Rattle.model.specs.Grade.{gradeBytes, gradeAnswer, gradeArea};
 ghost use Rattle.model.specs.Promises.{Demand3};
 ghost use Rattle.faults.specs.Given.{Blank};
 ghost use Rattle.job.specs.Job.{answerOf, JobOf};
-ghost use Rattle.stages.specs.Stages.{Gradable, Standing};
+ghost use Rattle.stages.specs.Stages.{Gradable, Standing, RowRoom};
+ghost use Rattle.grade.specs.Graded.{TableRoom, Graded};
 use job::Job;
 use job::JobCheck;
 use job::Outcome;
@@ -21,12 +22,11 @@ use stages::Hits;
 use stages::Masks;
 use stages::Row;
 use stages::State;
-use stages::Table;
 use stages::Times;
 use stages::Trials;
 use stages::Words;
 
-// The records of all faults of the list, batch by batch.
+// The records of all faults of the list: the sieve, and then what it leaves open, pack by pack.
 fn grade_list(
     c: &[u8],
     job: Job,
@@ -45,8 +45,8 @@ fn grade_list(
     units: &mut Trials,
     bits: &mut Trials,
     row: &mut Row,
-    states: &mut Table,
-    list: &mut Table,
+    states: &mut [u8],
+    list: &mut [u8],
     nout: &mut Counts,
     times: &mut Times,
     extras: &mut Extras,
@@ -54,20 +54,34 @@ fn grade_list(
     result: &mut [u8],
 )
     requires { ⌜ (Gradable (now c) (now t) (now plan) k job (now pins) (now flops) (now outs)) × (Standing (now c) (now t) (now work)) × (Blank (now hits) (now masks))
-        × (ValidInputs (now c) (now t) 0 32768 (now fs)) × (16 * faultCount (now fs) ≤ length (now result)) ⌝ }
+        × (RowRoom (now c) (now t) (now states)) × (RowRoom (now c) (now t) (now list)) × (ValidInputs (now c) (now t) 0 32768 (now fs)) × (16 * faultCount (now fs) ≤ length (now result)) ⌝ }
     ensures { λ _. ⌜ now (result .exit) ≡ overwritten (gradeBytes (now (c .entry)) (now (t .entry)) (now (fs .entry)) (now (plan .entry)) k) (now (result .entry)) ⌝ }
 {
+    sieve::sieve(
+        c,
+        job,
+        t,
+        fs,
+        work,
+        pins,
+        flops,
+        outs,
+        hits,
+        masks,
+        feed,
+        words,
+        state,
+        result,
+    );
     let count = fs.len() / 4;
     let mut from: usize = 0;
     while from < count {
-        let size = tally::block(count - from);
-        batch::grade_batch(
+        from = batch::grade_pack(
             c,
             job,
             t,
             fs,
             from,
-            size,
             plan,
             k,
             pins,
@@ -89,11 +103,10 @@ fn grade_list(
             work,
             result,
         );
-        from += size;
     }
 }
 
-// The records of an accepted job.
+// The records of an accepted job. The two tables are for rows of state bits.
 fn grade_job(
     c: &[u8],
     job: Job,
@@ -101,10 +114,13 @@ fn grade_job(
     fs: &[u8],
     plan: &[u8],
     k: usize,
+    states: &mut [u8],
+    list: &mut [u8],
     work: &mut [u8],
     result: &mut [u8],
 )
-    requires { ⌜ (GradeReady (now c) (now t) (now fs) (now plan) k (length (now work)) (length (now result))) × (JobOf (now c) (now t) job) ⌝ }
+    requires { ⌜ (GradeReady (now c) (now t) (now fs) (now plan) k (length (now work)) (length (now result))) × (JobOf (now c) (now t) job)
+        × (RowRoom (now c) (now t) (now states)) × (RowRoom (now c) (now t) (now list)) ⌝ }
     ensures { λ _. ⌜ now (result .exit) ≡ overwritten (gradeBytes (now (c .entry)) (now (t .entry)) (now (fs .entry)) (now (plan .entry)) k) (now (result .entry)) ⌝ }
 {
     let mut pins = [0u16; 16384];
@@ -118,13 +134,11 @@ fn grade_job(
     let mut units = [0usize; 32];
     let mut bits = [0usize; 32];
     let mut row = [0u8; 256];
-    let mut states = [0u8; 262144];
-    let mut list = [0u8; 262144];
     let mut nout = [0usize; 1025];
     let mut times = [0usize; 12];
     let mut extras = [0u8; 6144];
     circuit::list_tables(c, job.lines, &mut pins, &mut flops, &mut outs);
-    batch::write_free(
+    places::write_free(
         c,
         job,
         t,
@@ -136,7 +150,7 @@ fn grade_job(
         &mut feed,
         &mut words,
         &mut state,
-        &mut states,
+        states,
         work,
     );
     grade_list(
@@ -157,8 +171,8 @@ fn grade_job(
         &mut units,
         &mut bits,
         &mut row,
-        &mut states,
-        &mut list,
+        states,
+        list,
         &mut nout,
         &mut times,
         &mut extras,
@@ -167,7 +181,43 @@ fn grade_job(
     );
 }
 
-// A verdict record for each fault of the list; see README.md, Calls.
+// Grade with two tables that are lent, long enough for every job that is accepted with this work area.
+fn grade_with(
+    circuit: &[u8],
+    test: &[u8],
+    faults: &[u8],
+    plan: &[u8],
+    k: usize,
+    states: &mut [u8],
+    list: &mut [u8],
+    work: &mut [u8],
+    result: &mut [u8],
+) -> Outcome
+    requires { ⌜ (TableRoom (length (now work)) (now states)) × (TableRoom (length (now work)) (now list)) ⌝ }
+    ensures { λ r. ⌜ Graded (now (circuit .entry)) (now (test .entry)) (now (faults .entry)) (now (plan .entry)) k (now (work .entry)) (now (result .entry)) (now (work .exit)) (now (result .exit)) r ⌝ }
+{
+    match job::check_grade(circuit, test, faults, plan, k, work.len(), result.len()) {
+        JobCheck::Broken { rule, at } => Outcome::Refused { rule, at },
+        JobCheck::Ready(job) => {
+            grade_job(
+                circuit,
+                job,
+                test,
+                faults,
+                plan,
+                k,
+                states,
+                list,
+                work,
+                result,
+            );
+            Outcome::Done(faults.len() / 4)
+        }
+    }
+}
+
+// A verdict record for each fault of the list; see README.md, Calls. Number 13 bounds the tables by the work area: with a small one they are small
+// too, and soon cleared.
 pub fn grade(
     circuit: &[u8],
     test: &[u8],
@@ -182,11 +232,32 @@ pub fn grade(
     ensures keeps { λ r. ⌜ now (work .exit) ≡ unlessRefused (gradeRefusal (now (circuit .entry)) (now (test .entry)) (now (faults .entry)) (now (plan .entry)) k (length (now (work .entry))) (length (now (result .entry)))) (now (work .exit)) (now (work .entry)) ⌝ }
     ensures promise { λ r. ⌜ Demand3 (now (circuit .entry)) (now (test .entry)) (now (faults .entry)) (now (plan .entry)) k (length (now (work .entry))) (now (result .entry)) (now (result .exit)) ⌝ }
 {
-    match job::check_grade(circuit, test, faults, plan, k, work.len(), result.len()) {
-        JobCheck::Broken { rule, at } => Outcome::Refused { rule, at },
-        JobCheck::Ready(job) => {
-            grade_job(circuit, job, test, faults, plan, k, work, result);
-            Outcome::Done(faults.len() / 4)
-        }
+    if work.len() <= 65536 {
+        let mut states = [0u8; 4096];
+        let mut list = [0u8; 4096];
+        return grade_with(
+            circuit,
+            test,
+            faults,
+            plan,
+            k,
+            &mut states,
+            &mut list,
+            work,
+            result,
+        );
     }
+    let mut states = [0u8; 262144];
+    let mut list = [0u8; 262144];
+    grade_with(
+        circuit,
+        test,
+        faults,
+        plan,
+        k,
+        &mut states,
+        &mut list,
+        work,
+        result,
+    )
 }

@@ -194,6 +194,15 @@ firstPair-none P (suc a) b u i e h k =
       | no g ↦ (let q : u ≡ a = omega arith in rw q (first-none (P a) b i (pairWith-none a _ (d .1)) k))
     ]
 
+-- a pair stays the first, however many rows follow
+pub firstPair-more : (P : ℕ → ℕ → Bool) (a b d : ℕ) (q : ℕ × ℕ) → firstPair P a b ≡ some q → a ≤ d → firstPair P d b ≡ some q
+unfolding firstPair
+firstPair-more P a b zero q e l = let z : a ≡ 0 = omega arith in rw z at e
+firstPair-more P a b (suc d) q e l = elim (decLe a d) [
+  | yes g ↦ else-found (firstPair P d b) _ q (firstPair-more P a b d q e g)
+  | no g ↦ (let z : a ≡ suc d = omega arith in rw z at e)
+]
+
 -- ---- some number, and how many
 pub anyBelow-false : (P : ℕ → Bool) (n m : ℕ) → anyBelow P n ≡ false → m < n → P m ≡ false
 unfolding anyBelow

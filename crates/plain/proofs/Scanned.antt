@@ -48,12 +48,14 @@ answer-listed c t free f u o row h =
     shown-at c noFault vs o h ∙ getD-any (outputs c noFault vs) o X 0 (rw (length-outputs c noFault vs) h) ∙ ap (λ x. getD x o 0) (sym row) ∙ sym (byte-of-part free (O c * u) (O c) o h) in
     rw (fault-free, shown-at c f (valuesAt c t f (powerUp c) u) o h)
 
-pub first-scanned : (c t free : List ℕ) (size : ℕ) (f : Fault) → size ≡ O c → Rows (O c) (L c t) free (freeOutputs c t)
-    → firstPair (λ u n. opposedAt c t f u n) (L c t) (N c) ≡ firstAnswer (λ u. firstAnswer (λ o. answerAt c t free size f u o) size) (L c t)
+pub first-scanned : (c t free : List ℕ) (size units : ℕ) (f : Fault) → size ≡ O c → units ≤ L c t → Rows (O c) (L c t) free (freeOutputs c t)
+    → firstPair (λ u n. opposedAt c t f u n) units (N c) ≡ firstAnswer (λ u. firstAnswer (λ o. answerAt c t free size f u o) size) units
 unfolding opposedAt outputLines
-first-scanned c t free size f e rows =
-    let listed = firstPair-select (λ n. isOutput c n) (λ u n. opposes (shown noFault (freeValues c t u) n) (shown f (plainValues c t f u) n)) (L c t) (N c) in
-    rw e (listed ∙ rw (length-outputLines c) (firstAnswer-same _ _ (L c t) (λ u h. firstAnswer-same _ _ (O c) (λ o l. answer-listed c t free f u o (rows .at u h) l))))
+first-scanned c t free size units f e most rows =
+    let listed = firstPair-select (λ n. isOutput c n) (λ u n. opposes (shown noFault (freeValues c t u) n) (shown f (plainValues c t f u) n)) units (N c) in
+    rw e
+    (listed
+    ∙ rw (length-outputLines c) (firstAnswer-same _ _ units (λ u h. firstAnswer-same _ _ (O c) (λ o l. answer-listed c t free f u o (rows .at u (omega arith)) l))))
 
 -- ---- rows
 row-byte : (size u o : ℕ) (free : List ℕ) → o < size → getD free (size * u + o) 0 ≡ getD (rowOf size free u) o 0
@@ -123,26 +125,29 @@ module _ (c t free : List ℕ) (size : ℕ) (f : Fault) (lane : ℕ) where
     }
 
 -- ---- the lanes below count, when the loops are left
-module _ (c t free : List ℕ) (size count : ℕ) (hits masks state : List ℕ) (u : ℕ) (r : Firsts) (times lines : List ℕ) (e : size ≡ O c) where
+module _ (c t free : List ℕ) (size count units : ℕ) (hits masks state : List ℕ) (u : ℕ) (r : Firsts) (times lines : List ℕ)
+    (e : size ≡ O c) (most : units ≤ L c t) where
   -- each of them has a place
-  pub places-stop : (o : ℕ) → ((lane : ℕ) → lane < 64 → bit lane (r .found) ≡ ltb lane count) → u < L c t → o ≤ size
+  pub places-stop : (o : ℕ) → ((lane : ℕ) → lane < 64 → bit lane (r .found) ≡ ltb lane count) → u < units → o ≤ size
       → ((lane : ℕ) (f : Fault) → lane < count → Stuck lane hits masks f → Lane lane state (powerUp c) → Scanned c t free size f lane u o (r .found) (r .left) times lines)
-      → Places c t free count hits masks state times lines r
+      → Places c t free count units hits masks state times lines r
   places-stop o all i j lanes = record {
     first = λ lane f l s st rows.
         let has : bit lane (r .found) ≡ true = all lane (s .lane) ∙ lt-ltb lane count l in
-        first-scanned c t free size f e rows
-        ∙ rw has (scan-stop (λ u o. answerAt c t free size f u o) size u o (L c t) (placeAt times lines lane) i j (lanes lane f l s st .place ∙ rw has));
-    left = λ lane f l s st rows no. clash _ (all lane (s .lane) ∙ lt-ltb lane count l) no;
+        first-scanned c t free size units f e most rows
+        ∙ rw has (scan-stop (λ u o. answerAt c t free size f u o) size u o units (placeAt times lines lane) i j (lanes lane f l s st .place ∙ rw has));
+    left = λ lane f l s st rows whole no. clash _ (all lane (s .lane) ∙ lt-ltb lane count l) no;
   }
 
   -- no unit is left
-  pub places-all : u ≡ L c t
+  pub places-all : u ≡ units
       → ((lane : ℕ) (f : Fault) → lane < count → Stuck lane hits masks f → Lane lane state (powerUp c) → Scanned c t free size f lane u 0 (r .found) (r .left) times lines)
-      → Places c t free count hits masks state times lines r
+      → Places c t free count units hits masks state times lines r
   places-all i lanes = record {
     first = λ lane f l s st rows.
-        first-scanned c t free size f e rows ∙ scan-all (λ u o. answerAt c t free size f u o) size u (L c t) i ∙ lanes lane f l s st .place;
-    left = λ lane f l s st rows no.
-        lanes lane f l s st .unknown ∙ rw (open-none (rowOf size free u) (plainOutputs c t f u), or-false (anyBelow (λ v. ltb 0 (countOpen (rowOf size free v) (plainOutputs c t f v))) u), i, e) (some-left c t f free rows);
+        first-scanned c t free size units f e most rows ∙ scan-all (λ u o. answerAt c t free size f u o) size u units i ∙ lanes lane f l s st .place;
+    left = λ lane f l s st rows whole no.
+        lanes lane f l s st .unknown
+        ∙ rw (open-none (rowOf size free u) (plainOutputs c t f u), or-false (anyBelow (λ v. ltb 0 (countOpen (rowOf size free v) (plainOutputs c t f v))) u), i, whole, e)
+        (some-left c t f free rows);
   }

@@ -29,11 +29,11 @@ pub record NotedIf (rest t u line : ℕ) (times lines times′ lines′ : List �
 pub record Noted (new u line : ℕ) (times lines times′ lines′ : List ℕ) : Type 0 where
   pub at : (lane : ℕ) → lane < 64 → placeAt times′ lines′ lane ≡ cond (bit lane new) (u, line) (placeAt times lines lane)
 
--- Of each lane below count, from the power-up state: the lowest time unit, and in it the lowest line number, at which an output opposes what
--- the fault-free circuit shows, which the rows of `free` hold. A lane has a place if its bit of r's first word is set; of a lane that has none
--- the bit of the second says whether Nout(0) is above 0.
-pub record Places (c t free : List ℕ) (count : ℕ) (hits masks state times lines : List ℕ) (r : Firsts) : Type 0 where
+-- Of each lane below count, from the power-up state and over the first so many units: the lowest time unit, and in it the lowest line number,
+-- at which an output opposes what the fault-free circuit shows, which the rows of `free` hold. A lane has a place if its bit of r's first word
+-- is set; of a lane that has none in all the test's units the bit of the second says whether Nout(0) is above 0.
+pub record Places (c t free : List ℕ) (count units : ℕ) (hits masks state times lines : List ℕ) (r : Firsts) : Type 0 where
   pub first : (lane : ℕ) (f : Fault) → lane < count → Stuck lane hits masks f → Lane lane state (powerUp c) → Rows (O c) (L c t) free (freeOutputs c t)
-      → firstPair (λ u n. opposedAt c t f u n) (L c t) (N c) ≡ cond (bit lane (r .found)) (some (placeAt times lines lane)) none
+      → firstPair (λ u n. opposedAt c t f u n) units (N c) ≡ cond (bit lane (r .found)) (some (placeAt times lines lane)) none
   pub left : (lane : ℕ) (f : Fault) → lane < count → Stuck lane hits masks f → Lane lane state (powerUp c) → Rows (O c) (L c t) free (freeOutputs c t)
-      → bit lane (r .found) ≡ false → bit lane (r .left) ≡ ltb 0 (nout c t f 0)
+      → units ≡ L c t → bit lane (r .found) ≡ false → bit lane (r .left) ≡ ltb 0 (nout c t f 0)

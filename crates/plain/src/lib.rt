@@ -41,13 +41,15 @@ pub struct Firsts {
     pub left: u64,
 }
 
-// The lanes below count that have a place, whose time and line are noted; of those that have none, which have something left to show.
+// The lanes below count that have a place in the first so many units, whose time and line are noted; of those that have none, which have
+// something left to show there.
 pub fn first_places(
     c: &[u8],
     job: Job,
     t: &[u8],
     free: &[u8],
     count: usize,
+    units: usize,
     pins: &[u16],
     flops: &[usize],
     outs: &[usize],
@@ -60,14 +62,14 @@ pub fn first_places(
     lines: &mut [usize],
 ) -> Firsts
     requires { ⌜ (Runnable (now c) (now t) job (now pins) (now flops) (now outs) (now hits) (now masks) (now feed) (now words) (now state)) × (L (now c) (now t) * O (now c) ≤ length (now free))
-        × (count ≤ 64) × (64 ≤ length (now times)) × (64 ≤ length (now lines)) ⌝ }
-    ensures { λ r. ⌜ Places (now (c .entry)) (now (t .entry)) (now (free .entry)) count (now (hits .entry)) (now (masks .entry)) (now (state .entry)) (now (times .exit)) (now (lines .exit)) r ⌝ }
+        × (count ≤ 64) × (units ≤ L (now c) (now t)) × (64 ≤ length (now times)) × (64 ≤ length (now lines)) ⌝ }
+    ensures { λ r. ⌜ Places (now (c .entry)) (now (t .entry)) (now (free .entry)) count units (now (hits .entry)) (now (masks .entry)) (now (state .entry)) (now (times .exit)) (now (lines .exit)) r ⌝ }
 {
     let wanted = tally::first_lanes(count);
     let mut found: u64 = 0;
     let mut left: u64 = 0;
     let mut u: usize = 0;
-    'units: while u < job.units {
+    'units: while u < units {
         let at = job.outputs * u;
         run::values_at(
             c,

@@ -1,6 +1,10 @@
--- What a verdict of the code stands for.
+-- What a verdict of the code stands for, and an area with records in it.
+use mathlib.Core.Path.{_≡_}
+use mathlib.Core.List.{List}
 use Prim.Native.Nat.{ℕ}
-use Rattle.model.specs.Grade.{Verdict}
+use Rattle.lists.specs.Scan.{gather}
+use Rattle.lists.specs.Field.{overwritten}
+use Rattle.model.specs.Grade.{Verdict, recordBytes}
 use Rattle.record.specs.declared.Verdict as code
 
 -- the verdict of the definitions that has the same eight fields
@@ -20,3 +24,7 @@ verdictOf v = record {
 unfoldable pub carrying : ℕ → ℕ → ℕ → ℕ → ℕ → ℕ → Verdict
 carrying v m differing clashing surviving start =
     record { verdict = v; m = m; time = 0; line = 0; differing = differing; clashing = clashing; surviving = surviving; start = start }
+
+-- the area holds the records of the verdicts v 0, .. , v (n - 1), and behind them what it held before
+pub record RecordsOf (v : ℕ → Verdict) (n : ℕ) (old area : List ℕ) : Type 0 where
+  pub all : area ≡ overwritten (gather (λ j. recordBytes (v j)) n) old

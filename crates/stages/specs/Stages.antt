@@ -40,6 +40,10 @@ pub record Standing (c t work : List ℕ) : Type 0 where
   pub room : L c t * O c + L c t * O c ≤ length work
   pub frees : Rows (O c) (L c t) work (λ u. freeOutputs c t u)
 
+-- a table has room for a row of state bits a unit
+pub record RowRoom (c t table : List ℕ) : Type 0 where
+  pub room : L c t * F c ≤ length table
+
 -- Nout of every unit, and that it is above 0 at the first r units: the work area holds the fault-free responses and behind them the fault's.
 pub record OpenFrom (job : Job) (work counts : List ℕ) (r : ℕ) : Type 0 where
   pub units : (c t : List ℕ) (f : Fault) → JobOf c t job → Rows (O c) (L c t) work (λ u. freeOutputs c t u) → Rows (O c) (L c t) (drop (L c t * O c) work) (λ u. plainOutputs c t f u)

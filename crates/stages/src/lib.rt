@@ -8,7 +8,7 @@ ghost use Rattle.model.specs.Inputs.{O, L, Fault};
 ghost use Rattle.model.specs.Grade.{placed, beforeStage5, grade};
 ghost use Rattle.record.specs.Record.{verdictOf};
 ghost use Rattle.take.specs.Take.{Prepared};
-ghost use Rattle.stages.specs.Stages.{Tabled, Gradable, Standing, OpenFrom, Deciding, Middling, Graded};
+ghost use Rattle.stages.specs.Stages.{Tabled, Gradable, Standing, RowRoom, OpenFrom, Deciding, Middling, Graded};
 use expand::Walk;
 use job::Job;
 use record::Verdict;
@@ -82,8 +82,8 @@ fn last_stages(
     job: Job,
     t: &[u8],
     free: &[u8],
-    states: &Table,
-    list: &Table,
+    states: &[u8],
+    list: &[u8],
     left: usize,
     plan: &[u8],
     k: usize,
@@ -100,7 +100,8 @@ fn last_stages(
     times: &mut Times,
     extras: &mut Extras,
 ) -> Verdict
-    requires { ⌜ (Gradable (now c) (now t) (now plan) k job (now pins) (now flops) (now outs)) × (L (now c) (now t) * O (now c) ≤ length (now free)) ⌝ }
+    requires { ⌜ (Gradable (now c) (now t) (now plan) k job (now pins) (now flops) (now outs)) × (L (now c) (now t) * O (now c) ≤ length (now free))
+        × (RowRoom (now c) (now t) (now states)) × (RowRoom (now c) (now t) (now list)) ⌝ }
     ensures { λ r. ⌜ ((f : Fault) → Prepared (now (c .entry)) (now (t .entry)) (now (free .entry)) (now (states .entry)) (now (list .entry)) (now (hits .entry)) (now (masks .entry)) left f
         → beforeStage5 (now (c .entry)) (now (t .entry)) f ≡ none → verdictOf r ≡ grade (now (c .entry)) (now (t .entry)) f (now (plan .entry)) k) ⌝ }
 {
@@ -180,12 +181,12 @@ pub fn middle_stages(
     units: &mut Trials,
     bits: &mut Trials,
     row: &mut Row,
-    states: &mut Table,
-    list: &mut Table,
+    states: &mut [u8],
+    list: &mut [u8],
     nout: &mut Counts,
     work: &mut [u8],
 ) -> Middle
-    requires { ⌜ (Tabled (now c) (now t) job (now pins) (now flops) (now outs)) × (Standing (now c) (now t) (now work)) ⌝ }
+    requires { ⌜ (Tabled (now c) (now t) job (now pins) (now flops) (now outs)) × (Standing (now c) (now t) (now work)) × (RowRoom (now c) (now t) (now states)) × (RowRoom (now c) (now t) (now list)) ⌝ }
     ensures { λ r. ⌜ Middling (now (c .entry)) (now (t .entry)) (now (hits .entry)) (now (masks .entry)) (now (states .exit)) (now (list .exit)) (now (nout .exit)) (now (work .exit)) r ⌝ }
 {
     fault::trace(
@@ -249,14 +250,15 @@ pub fn later_stages(
     units: &mut Trials,
     bits: &mut Trials,
     row: &mut Row,
-    states: &mut Table,
-    list: &mut Table,
+    states: &mut [u8],
+    list: &mut [u8],
     nout: &mut Counts,
     times: &mut Times,
     extras: &mut Extras,
     work: &mut [u8],
 ) -> Verdict
-    requires { ⌜ (Gradable (now c) (now t) (now plan) k job (now pins) (now flops) (now outs)) × (Standing (now c) (now t) (now work)) ⌝ }
+    requires { ⌜ (Gradable (now c) (now t) (now plan) k job (now pins) (now flops) (now outs)) × (Standing (now c) (now t) (now work))
+        × (RowRoom (now c) (now t) (now states)) × (RowRoom (now c) (now t) (now list)) ⌝ }
     ensures { λ r. ⌜ Graded (now (c .entry)) (now (t .entry)) (now (plan .entry)) k (now (hits .entry)) (now (masks .entry)) (now (work .exit)) r ⌝ }
 {
     let middle = middle_stages(

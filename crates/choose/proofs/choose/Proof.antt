@@ -1,7 +1,7 @@
-use mathlib.Core.Path.{_≡_, sym, _∙_}
+use mathlib.Core.Path.{_≡_, sym, ap, _∙_}
 use mathlib.Core.Option.{none}
 use lib.ListN.{length}
-use Rattle.model.specs.Refusals.{chooseRefusal}
+use Rattle.model.specs.Refusals.{done, chooseRefusal}
 use Rattle.model.specs.Choose.{chooseAnswer, chooseArea}
 use Rattle.model.proofs.Accepted.{chooseReady, answer-done, answer-refused, area-done, area-refused}
 use Rattle.job.specs.Job.{answerOf}
@@ -47,7 +47,7 @@ returns-2 c =
     let job = case (ran c .before) in
     let none = passed job in
     let written = ran c .choose-job .ensures in
-    let answer = rw (written .count) (sym (answer-done _ _ none)) in
+    let answer = ap done (written .count) ∙ sym (answer-done _ _ none) in
     let area = written .area ∙ sym (area-done _ _ _ none) in
     (answer, (area, (sym (area-done _ _ _ none), promised _ _ _ _ _ (start (checked job) .args .result .now) _ _ answer area)))
 

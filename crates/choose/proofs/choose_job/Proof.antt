@@ -2,8 +2,8 @@ use mathlib.Core.Path.{sym, _∙_}
 use native.Mathlib.Omega.{arith}
 use Rattle.model.proofs.Choose.{chosen-decided}
 use Rattle.faults.proofs.Laws.{blank-zeros}
-use Rattle.batch.proofs.Laws.{work-room, open-first}
-use Rattle.choose.proofs.Laws.{table-size, records-none, inputs-as, tabled, decided-first}
+use Rattle.places.proofs.Laws.{work-room, faults-of, decided-1, open-first}
+use Rattle.choose.proofs.Laws.{table-size, records-none, tabled}
 use borrow.Author.Needs.{needs}
 use Rattle.choose.proofs.choose_job.Statement.{statement}
 use Rattle.choose.proofs.choose_job.Tie as tie
@@ -19,10 +19,13 @@ abbrev held : tie.After-lines → tie.After-work
 held c = c .before .before .before .before .before .before .before .before .before .before .before .before
 
 abbrev freed : tie.After-lines → tie.After-write-free
-freed c = held c .before
+freed c = held c .before .before
 
 abbrev sought : tie.After-has-lane → tie.After-find-places
 sought c = c .before
+
+abbrev begin : tie.After-find-places → tie.Start
+begin c = start (listed (freed (c .before) .before) .before)
 
 abbrev else : tie.After-choose-open-arg2 → tie.Else1
 else c = c .before .before .before .before .before .before .before .before .before .before .before .before .before .before .before .before .before .before .before .before
@@ -47,12 +50,20 @@ find-places-requires c κs =
     let free = freed c in
     let tables = listed (free .before) in
     let pre = start (tables .before) .pre in
-    (tabled (pre .0) (pre .1) (tables .list-tables .ensures), free .write-free .ensures, blank-zeros 4096 2560, inputs-as (pre .0 .inputs), omega arith, omega (arith, pre .0 .inputs .enough))
+    let inputs = pre .0 .inputs in (
+      tabled (pre .0) (pre .1) (tables .list-tables .ensures),
+      free .write-free .ensures,
+      blank-zeros 4096 2560,
+      faults-of inputs (omega arith) (omega (arith, inputs .enough)),
+      omega (arith, pre .1 .units),
+    )
 
 returns : tie.Need-returns
 returns c =
     let places = sought (c .before) in
-    records-none _ _ (chosen-decided _ _ _ _ _ (decided-first _ _ _ _ 0 _ _ (places .find-places .ensures .1 .of 0 (omega arith)) (sym (c .before .has-lane .ensures) ∙ c .if1 .taken)))
+    let known = places .find-places .ensures .1 .of 0 (omega arith) in
+    let decided = decided-1 known (omega (arith, begin places .pre .1 .units)) (sym (c .before .has-lane .ensures) ∙ c .if1 .taken) in
+    records-none _ _ (chosen-decided _ _ _ _ _ decided)
 
 choose-open-requires : tie.Need-choose-open-requires
 choose-open-requires c κs =
@@ -76,7 +87,8 @@ returns-2 c =
     let chose = c .before .before .before .before in
     let at = else (chose .before) in
     let places = sought (at .before) in
-    chose .choose-open .ensures (open-first _ _ _ _ 0 _ _ (places .find-places .ensures .1 .of 0 (omega arith)) (sym (at .before .has-lane .ensures) ∙ at .if1 .left))
+    let known = places .find-places .ensures .1 .of 0 (omega arith) in
+    chose .choose-open .ensures (open-first known (begin places .pre .1 .units) (sym (at .before .has-lane .ensures) ∙ at .if1 .left))
 
 pub choose-job-spec : {M : Type 1} → statement M
 choose-job-spec =
@@ -86,6 +98,7 @@ choose-job-spec =
     (λ c. search needs)
     (λ c. search needs)
     list-tables-requires
+    (λ c. search needs)
     (λ c. search needs)
     (λ c. search needs)
     (λ c. search needs)

@@ -7,7 +7,7 @@ use Rattle.model.proofs.Apart.{list-three}
 use Rattle.model.proofs.Choose.{chosen-undecided, chosen-decided}
 use Rattle.expand.proofs.Begin.{product-as}
 use Rattle.best.proofs.Bounds.{nouts-small}
-use Rattle.stages.proofs.Laws.{last-none}
+use Rattle.stages.proofs.Laws.{table-room, last-none}
 use Rattle.choose.proofs.Laws.{records-none, records-as}
 use borrow.Author.Needs.{needs}
 use Rattle.choose.proofs.choose_open.Statement.{statement}
@@ -49,7 +49,15 @@ give-all-requires c κs =
     )
 
 middle-stages-requires : tie.Need-middle-stages-requires
-middle-stages-requires c κs = let s = start (read (c .before .before .before .before .before .before .before .before .before .before .before .before)) in (s .pre .0, s .pre .1)
+middle-stages-requires c κs =
+    let list = c .before .before in
+    let states = list .before in
+    let s = start (read (states .before .before .before .before .before .before .before .before .before)) in (
+      s .pre .0,
+      s .pre .1,
+      record { room = table-room (s .pre .0) _ (states .middle-stages-arg9 .given .0 .1) },
+      record { room = table-room (s .pre .0) _ (list .middle-stages-arg10 .given .0 .1) },
+    )
 
 returns : tie.Need-returns
 returns c = λ open-first.

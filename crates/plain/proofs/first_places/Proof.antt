@@ -19,35 +19,37 @@ use Rattle.plain.proofs.first_places.Statement.{statement}
 use Rattle.plain.proofs.first_places.Tie as tie
 
 abbrev Inv-loop : tie.InvT-loop
-Inv-loop c job t free count pins flops outs hits masks feed words state times₀ lines₀ wanted found₀ left₀ u at o₀ times lines found left o =
+Inv-loop c job t free count units pins flops outs hits masks feed words state times₀ lines₀ wanted found₀ left₀ u at o₀ times lines found left o =
     (o ≤ job .outputs) × (length times ≡ length times₀) × (length lines ≡ length lines₀)
     × ((lane : ℕ) (f : Fault) → lane < count → Stuck lane hits masks f → Lane lane words (lineValues c f (inputsAt c t u) (stateAt c t f (powerUp c) u))
     → Scanned c t free (job .outputs) f lane u 0 found₀ left₀ times₀ lines₀ → Scanned c t free (job .outputs) f lane u o found left times lines)
 
 abbrev μ-loop : tie.MeasureT-loop
-μ-loop c job t free count pins flops outs hits masks feed words state times₀ lines₀ wanted found₀ left₀ u at o₀ times lines found left o = job .outputs - o
+μ-loop c job t free count units pins flops outs hits masks feed words state times₀ lines₀ wanted found₀ left₀ u at o₀ times lines found left o = job .outputs - o
 
 abbrev Inv-units : tie.InvT-units
-Inv-units c job t free count pins flops outs hits masks feed₀ words₀ state₀ times₀ lines₀ wanted found₀ left₀ u₀ feed words state times lines found left u =
-    (u ≤ job .units) × (length feed ≡ length feed₀) × (length words ≡ length words₀) × (length state ≡ length state₀) × (length times ≡ length times₀) × (length lines ≡ length lines₀)
+Inv-units c job t free count units pins flops outs hits masks feed₀ words₀ state₀ times₀ lines₀ wanted found₀ left₀ u₀ feed words state times lines found left u =
+    (u ≤ units) × (length feed ≡ length feed₀) × (length words ≡ length words₀) × (length state ≡ length state₀)
+    × (length times ≡ length times₀) × (length lines ≡ length lines₀)
     × ((lane : ℕ) (f : Fault) → lane < count → Stuck lane hits masks f → Lane lane state₀ (powerUp c)
     → Lane lane state (stateAt c t f (powerUp c) u) × Scanned c t free (job .outputs) f lane u 0 found left times lines)
 
 abbrev μ-units : tie.MeasureT-units
-μ-units c job t free count pins flops outs hits masks feed₀ words₀ state₀ times₀ lines₀ wanted found₀ left₀ u₀ feed words state times lines found left u = job .units - u
+μ-units c job t free count units pins flops outs hits masks feed₀ words₀ state₀ times₀ lines₀ wanted found₀ left₀ u₀ feed words state times lines found left u =
+    units - u
 
 -- places: the loop over the units, in it a unit, its values, the loop over the outputs, in it an output, what it opposes, and that noted
 abbrev Units : Type 0
 Units = tie.At-units Inv-loop μ-loop Inv-units μ-units
 
 abbrev Unit : Type 0
-Unit = tie.Then1 Inv-loop μ-loop Inv-units μ-units
+Unit = tie.In-units Inv-loop μ-loop Inv-units μ-units
 
 abbrev Loop : Type 0
 Loop = tie.At-loop Inv-loop μ-loop Inv-units μ-units
 
 abbrev Output : Type 0
-Output = tie.Then2 Inv-loop μ-loop Inv-units μ-units
+Output = tie.Then1 Inv-loop μ-loop Inv-units μ-units
 
 abbrev Noted : Type 0
 Noted = tie.After-slice-known9 Inv-loop μ-loop Inv-units μ-units
@@ -59,7 +61,7 @@ abbrev start : Units → tie.Start Inv-loop μ-loop Inv-units μ-units
 start c = wanted c .before .before .before .before .before .before .before .before .before .before .before .before .before .before
 
 abbrev units : Unit → Units
-units c = c .before .before
+units c = c .before
 
 abbrev worded : Loop → tie.After-words Inv-loop μ-loop Inv-units μ-units
 worded c = c .before .before
@@ -106,14 +108,17 @@ turn c = loop (output c)
 abbrev ended : tie.After-slice-known10 Inv-loop μ-loop Inv-units μ-units → Loop
 ended c = c .before .before .before .before .before .before .before
 
--- row u of the responses, and output o
+-- unit u is one of the test's, with a row of the responses, and output o
+tested : (c : Unit) → units c .units .u < start (units c) .args .job .units
+tested c = let pre = start (units c) .pre in omega (arith, c .units-test .taken, pre .3, pre .0 .sizes .units)
+
 row : (c : Unit) → RowRoom (start (units c) .args .job .outputs) (units c .units .u) (length (start (units c) .args .free .now))
 row c =
     let pre = start (units c) .pre in
-    row-room _ _ _ _ _ _ _ (pre .0 .test) (pre .0 .sizes) (pre .0 .sizes .outputs) (pre .0 .circuit .outputs) (pre .1) (c .if1 .taken)
+    row-room _ _ _ _ _ _ _ (pre .0 .test) (pre .0 .sizes) (pre .0 .sizes .outputs) (pre .0 .circuit .outputs) (pre .1) (tested c)
 
 below : (c : Output) → loop c .loop .o < O (begin (loop c) .args .c .now)
-below c = omega (arith, c .if2 .taken, begin (loop c) .pre .0 .sizes .outputs)
+below c = omega (arith, c .if1 .taken, begin (loop c) .pre .0 .sizes .outputs)
 
 few : (c : Output) → loop c .loop .o < 256
 few c = omega (arith, below c, begin (loop c) .pre .0 .circuit .outputs)
@@ -164,7 +169,7 @@ turned c lane f h s w b =
     let run = begin l .pre .0 in
     let three = values-three cs ts f (powerUp cs) (round l .units .u) (stuck-binary cs lane _ _ f (run .circuit) (run .hitRoom) s) (run .test) (powerUp-three cs) in
     scanned-turn _ _ _ _ f lane _ _ _ _ _ _ (l .loop .inv .3 lane f h s w b) _ _ _ (opposed c .opposing .result) _ (unknown c .unknown .result) (s .lane) (wanted (round l) .first-lanes .ensures lane (s .lane) ∙ lt-ltb lane _ h) (at out .line)
-    (out .if2 .taken) (below out) (row (unit l) .fits) (opposed c .opposing .ensures lane _ shows) (unknown c .unknown .ensures lane _ (s .lane) (outputs-three cs f vs (l .loop .o) three (below out)) shows) (noted c .note .ensures)
+    (out .if1 .taken) (below out) (row (unit l) .fits) (opposed c .opposing .ensures lane _ shows) (unknown c .unknown .ensures lane _ (s .lane) (outputs-three cs f vs (l .loop .o) three (below out)) shows) (noted c .note .ensures)
 
 units-holds : tie.Need-units-holds Inv-loop μ-loop Inv-units μ-units
 unfolding stateAt
@@ -174,7 +179,7 @@ values-at-requires : tie.Need-values-at-requires Inv-loop μ-loop Inv-units μ-u
 values-at-requires c κs =
     let u = c .before .before .before .before in
     let inv = units u .units .inv in
-    values-asked _ _ _ _ _ _ _ _ _ _ _ (start (units u) .pre .0) _ _ _ (inv .1) (inv .2) (inv .3) _ (u .if1 .taken)
+    values-asked _ _ _ _ _ _ _ _ _ _ _ (start (units u) .pre .0) _ _ _ (inv .1) (inv .2) (inv .3) _ (tested u)
 
 loop-holds : tie.Need-loop-holds Inv-loop μ-loop Inv-units μ-units
 loop-holds c = (omega arith, refl, refl, λ lane f h s w b. b)
@@ -189,20 +194,20 @@ add-response : tie.Need-add-response Inv-loop μ-loop Inv-units μ-units
 add-response c = let out = c .before .before .before in omega (arith, few out, row (unit (loop out)) .below)
 
 shared-slice-read-response : tie.Need-shared-slice-read-response Inv-loop μ-loop Inv-units μ-units
-shared-slice-read-response c = let out = c .before .before .before .before in omega (arith, out .if2 .taken, row (unit (loop out)) .fits)
+shared-slice-read-response c = let out = c .before .before .before .before in omega (arith, out .if1 .taken, row (unit (loop out)) .fits)
 
 note-requires : tie.Need-note-requires Inv-loop μ-loop Inv-units μ-units
 note-requires c κs =
     let l = loop (looked (c .before .before .before)) in
     let inv = round l .units .inv in
-    (omega (arith, l .loop .inv .1, inv .4, begin l .pre .3), omega (arith, l .loop .inv .2, inv .5, begin l .pre .4))
+    (omega (arith, l .loop .inv .1, inv .4, begin l .pre .4), omega (arith, l .loop .inv .2, inv .5, begin l .pre .5))
 
 loop-again : tie.Need-loop-again Inv-loop μ-loop Inv-units μ-units
 unfolding found left
 loop-again c =
     let n = c .before in
     let inv = turn n .loop .inv in
-    (omega (arith, output n .if2 .taken), n .before .before .before .times .given ∙ inv .1, n .before .lines .given ∙ inv .2, turned n)
+    (omega (arith, output n .if1 .taken), n .before .before .before .times .given ∙ inv .1, n .before .lines .given ∙ inv .2, turned n)
 
 next-state-requires : tie.Need-next-state-requires Inv-loop μ-loop Inv-units μ-units
 next-state-requires c κs =
@@ -214,7 +219,7 @@ add-u : tie.Need-add-u Inv-loop μ-loop Inv-units μ-units
 add-u c =
     let u = unit (ended c) in
     let pre = start (units u) .pre .0 in
-    omega (arith, u .if1 .taken, pre .sizes .units, pre .test .most)
+    omega (arith, tested u, pre .sizes .units, pre .test .most)
 
 units-again : tie.Need-units-again Inv-loop μ-loop Inv-units μ-units
 units-again c =
@@ -223,7 +228,7 @@ units-again c =
     let us = units u .units in
     let cs = begin l .args .c .now in
     let ts = begin l .args .t .now in (
-      omega (arith, u .if1 .taken),
+      omega (arith, u .units-test .taken),
       fed l .feed .given ∙ us .inv .1,
       worded l .words .given ∙ us .inv .2,
       c .before .state .given ∙ us .inv .3,
@@ -232,15 +237,16 @@ units-again c =
       λ lane f h s st.
           let w = values l lane f h s st in (
             rw (state-turn cs ts f (powerUp cs) (us .u)) (c .before .before .next-state .ensures lane f _ s w (length-lineValues cs f _ _)),
-            scanned-row _ _ _ _ _ _ _ _ _ _ _ _ (l .loop .inv .3 lane f h s w (us .inv .6 lane f h s st .1)) (omega (arith, l .loop .inv .0, c .before .before .before .before .before .if2 .left)) (begin l .pre .0 .sizes .outputs),
+            scanned-row _ _ _ _ _ _ _ _ _ _ _ _ (l .loop .inv .3 lane f h s w (us .inv .6 lane f h s st .1)) (omega (arith, l .loop .inv .0, c .before .before .before .before .before .if1 .left)) (begin l .pre .0 .sizes .outputs),
           ),
     )
 
 returns : tie.Need-returns Inv-loop μ-loop Inv-units μ-units
 returns c =
-    let us = c .before .before in
-    let run = start us .pre .0 in
-    places-all _ _ _ _ _ _ _ _ _ _ _ _ (run .sizes .outputs) (omega (arith, us .units .inv .0, c .if1 .left, run .sizes .units)) (λ lane f h s st. us .units .inv .6 lane f h s st .1)
+    let us = c .before in
+    let pre = start us .pre in
+    places-all _ _ _ _ _ _ _ _ _ _ _ _ _ (pre .0 .sizes .outputs) (pre .3) (omega (arith, us .units .inv .0, c .units-test .left))
+    (λ lane f h s st. us .units .inv .6 lane f h s st .1)
 
 returns-2 : tie.Need-returns-2 Inv-loop μ-loop Inv-units μ-units
 unfolding found left
@@ -249,9 +255,10 @@ returns-2 c =
     let l = turn n in
     let u = unit l in
     let us = units u in
-    let run = start us .pre .0 in
-    places-stop _ _ _ _ _ _ _ _ _ _ _ _ (run .sizes .outputs) _ (λ lane h. ap (bit lane) (c .if3 .taken) ∙ wanted us .first-lanes .ensures lane h) (omega (arith, u .if1 .taken, run .sizes .units))
-    (omega (arith, output n .if2 .taken)) (λ lane f h s st. turned n lane f h s (values l lane f h s st) (us .units .inv .6 lane f h s st .1))
+    let pre = start us .pre in
+    places-stop _ _ _ _ _ _ _ _ _ _ _ _ _ (pre .0 .sizes .outputs) (pre .3) _
+    (λ lane h. ap (bit lane) (c .if2 .taken) ∙ wanted us .first-lanes .ensures lane h) (u .units-test .taken)
+    (omega (arith, output n .if1 .taken)) (λ lane f h s st. turned n lane f h s (values l lane f h s st) (us .units .inv .6 lane f h s st .1))
 
 pub first-places-spec : {M : Type 1} → statement M
 first-places-spec =
@@ -275,17 +282,17 @@ first-places-spec =
     (λ c κs. tt)
     note-requires
     (λ c. omega (arith, few (output (c .before))))
-    (λ c. omega (arith, output (c .before) .if2 .taken))
+    (λ c. omega (arith, output (c .before) .if1 .taken))
     loop-again
     next-state-requires
     add-u
-    (λ c. omega (arith, unit (ended c) .if1 .taken))
+    (λ c. omega (arith, unit (ended c) .units-test .taken))
     units-again
-    (λ c. c .before .before .units .inv .1)
-    (λ c. c .before .before .units .inv .2)
-    (λ c. c .before .before .units .inv .3)
-    (λ c. c .before .before .units .inv .4)
-    (λ c. c .before .before .units .inv .5)
+    (λ c. c .before .units .inv .1)
+    (λ c. c .before .units .inv .2)
+    (λ c. c .before .units .inv .3)
+    (λ c. c .before .units .inv .4)
+    (λ c. c .before .units .inv .5)
     returns
     (λ c. let l = turn (c .before) in fed l .feed .given ∙ round l .units .inv .1)
     (λ c. let l = turn (c .before) in worded l .words .given ∙ round l .units .inv .2)

@@ -11,10 +11,10 @@ use Rattle.stages.proofs.later_stages.Tie as tie
 
 -- places
 abbrev staged : tie.After-struct-known → tie.After-middle-stages
-staged c = c .before .before .before
+staged c = c .before .before .before .before .before .before .before
 
 abbrev start : tie.After-middle-stages → tie.Start
-start c = c .before .before .before .before .before .before .before .before .before .before .before .before .before .before .before .before .before .before
+start c = c .before .before .before .before .before .before .before .before .before .before .before .before .before .before .before .before .before .before .before .before
 
 abbrev some-left : tie.After-struct-known3 → tie.Else1
 some-left c = c .before .before
@@ -22,13 +22,14 @@ some-left c = c .before .before
 abbrev first : tie.After-struct-known3 → tie.After-middle-stages
 first c = staged (some-left c .before)
 
+abbrev lent : tie.After-struct-known3 → tie.After-work
+lent c = some-left c .before .before .before
+
 abbrev last : tie.After-last-stages-arg10 → tie.Else2
 last c = c .before .before .before .before .before .before .before .before .before .before
 
 middle-stages-requires : tie.Need-middle-stages-requires
-middle-stages-requires c κs =
-    let s = c .before .before .before .before .before .before .before .before .before .before .before .before .before .before .before .before .before in
-    (s .pre .0 .tabled, s .pre .1)
+middle-stages-requires c κs = let s = c .before .before .before .before .before .before .before .before .before .before .before .before .before .before .before .before .before .before .before in (s .pre .0 .tabled, s .pre .1, s .pre .2, s .pre .3)
 
 returns : tie.Need-returns
 returns c =
@@ -69,7 +70,13 @@ last-stages-requires : tie.Need-last-stages-requires
 last-stages-requires c κs =
     let m = first (last c .before) in
     let s = start m in
-    (s .pre .0, omega (arith, s .pre .1 .room, some-left (last c .before) .before .before .before .work .given))
+    let work = lent (last c .before) in
+    let list = work .before .before in (
+      s .pre .0,
+      omega (arith, s .pre .1 .room, work .work .given),
+      record { room = omega (arith, s .pre .2 .room, list .before .before .states .given) },
+      record { room = omega (arith, s .pre .3 .room, list .list .given) },
+    )
 
 returns-3 : tie.Need-returns-3
 returns-3 c =
@@ -91,11 +98,17 @@ later-stages-spec =
     middle-stages-requires
     (λ c κs. search needs)
     (λ c. search needs)
+    (λ c. search needs)
+    (λ c. search needs)
     returns
     mul-if2
     at-pair-requires
     (λ c. search needs)
+    (λ c. search needs)
+    (λ c. search needs)
     returns-2
     last-stages-requires
-    (λ c. search needs)
+    (λ c. let list = lent (last (c .before) .before) .before .before in list .before .before .states .given)
+    (λ c. lent (last (c .before) .before) .before .before .list .given)
+    (λ c. lent (last (c .before) .before) .work .given)
     returns-3)

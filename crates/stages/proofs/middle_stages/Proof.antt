@@ -17,7 +17,7 @@ use Rattle.stages.proofs.middle_stages.Tie as tie
 
 -- places
 abbrev start : tie.After-trace-arg → tie.Start
-start c = c .before .before .before .before .before .before .before
+start c = c .before .before .before .before .before .before .before .before .before
 
 abbrev begun : tie.After-trace → tie.Start
 begun c = start (c .before .before .before .before .before .before .before)
@@ -25,14 +25,17 @@ begun c = start (c .before .before .before .before .before .before .before)
 abbrev traced : tie.After-open-units → tie.After-work
 traced c = c .before .before .before .before
 
+abbrev ran : tie.After-work → tie.After-trace
+ran c = c .before .before .before
+
 abbrev first : tie.After-open-units → tie.Start
-first c = begun (traced c .before)
+first c = begun (ran (traced c))
 
 abbrev opened : tie.After-expand → tie.Else1
-opened c = c .before .before .before .before .before .before .before .before .before .before .before .before .before
+opened c = c .before .before .before .before .before .before .before .before .before .before .before .before
 
 abbrev walked : tie.After-deciding → tie.After-expand
-walked c = c .before .before
+walked c = c .before .before .before .before
 
 trace-requires : tie.Need-trace-requires
 trace-requires c κs =
@@ -40,7 +43,7 @@ trace-requires c κs =
     let feed = state .before .before in
     let s = start (feed .before .before) in (
       runs (s .pre .0) (feed .before .before .trace-arg .given .0) (feed .before .trace-arg2 .given .0) (feed .trace-arg3 .given .0 .1) (state .before .trace-arg4 .given .0 .1) (state .trace-arg5 .given .0 .1),
-      table-room (s .pre .0) _ (c .before .trace-arg6 .given .0 .1),
+      s .pre .2 .room,
       s .pre .1 .room,
       s .pre .1 .frees,
     )
@@ -48,7 +51,7 @@ trace-requires c κs =
 open-units-requires : tie.Need-open-units-requires
 open-units-requires c κs =
     let after = c .before .before .before in
-    let s = begun (after .before) in
+    let s = begun (ran after) in
     let g = s .pre .0 in (
       omega (arith, g .sizes .units, g .test .most),
       omega (arith, g .sizes .outputs, g .circuit .outputs),
@@ -57,14 +60,14 @@ open-units-requires c κs =
 
 -- at how many units Nout is above 0
 above : (c : tie.After-open-units) (f : Fault) → let s = first c .args in Stuck 0 (s .hits .now) (s .masks .now) f → OpenUnits (s .c .now) (s .t .now) f (c .open-units .result)
-above c f stuck = let trace = traced c .before .trace .ensures in c .open-units .ensures .units _ _ f (first c .pre .0 .sizes) (trace .frees f stuck) (trace .shown f stuck)
+above c f stuck = let trace = ran (traced c) .trace .ensures in c .open-units .ensures .units _ _ f (first c .pre .0 .sizes) (trace .frees f stuck) (trace .shown f stuck)
 
 returns : tie.Need-returns
 returns c =
     let left = c .before in
     let s = first left in
     let g = s .pre .0 in
-    let trace = traced left .before .trace .ensures in record {
+    let trace = ran (traced left) .trace .ensures in record {
       opened = λ f stuck fault open-first. record {
         nothing = λ e. before-5 _ _ f open-first (g .circuit) (g .test) fault (above left f (stuck 0 (omega arith)) .zero 0 (omega (arith, e)) (g .test .some));
         decided = λ some-left h. absurd (let z : ⊥ = omega (arith, some-left, c .if1 .taken) in z);
@@ -77,20 +80,19 @@ returns c =
 
 expand-requires : tie.Need-expand-requires
 expand-requires c κs =
-    let units = c .before .before .before in
-    let state = units .before in
+    let row = c .before in
+    let state = row .before .before .before in
     let feed = state .before .before in
-    let states = feed .before .before .before in
-    let left = states .before .before .before .before in
+    let left = feed .before .before .before .before .before .before in
     let s = first left in
     let g = s .pre .0 in (
-      runs g (feed .before .before .expand-arg4 .given .0) (feed .before .expand-arg5 .given .0) (feed .expand-arg6 .given .0 .1) (state .before .expand-arg7 .given .0 .1) (state .expand-arg8 .given .0 .1),
+      runs g (feed .before .before .expand-arg3 .given .0) (feed .before .expand-arg4 .given .0) (feed .expand-arg5 .given .0 .1) (state .before .expand-arg6 .given .0 .1) (state .expand-arg7 .given .0 .1),
       omega (arith, s .pre .1 .room, traced left .work .given),
-      table-room g _ (states .expand-arg3 .given .0),
-      table-room g _ (c .expand-arg12 .given .0 .1),
-      omega (arith, units .expand-arg9 .given .0 .1),
-      omega (arith, c .before .before .expand-arg10 .given .0 .1),
-      omega (arith, c .before .expand-arg11 .given .0 .1),
+      omega (arith, s .pre .2 .room, traced left .before .before .states .given),
+      s .pre .3 .room,
+      omega (arith, row .before .before .expand-arg8 .given .0 .1),
+      omega (arith, row .before .expand-arg9 .given .0 .1),
+      omega (arith, row .expand-arg10 .given .0 .1),
     )
 
 -- how many positions the walk has
@@ -99,7 +101,7 @@ positions s = product-as _ _ _ _ (s .pre .0 .sizes .flops) (s .pre .0 .sizes .un
 
 mul-deciding : tie.Need-mul-deciding
 mul-deciding c =
-    let s = first (opened (c .before) .before) in
+    let s = first (opened (c .before .before .before) .before) in
     omega (arith, positions s, mul-le-mul (s .pre .0 .test .most) (s .pre .0 .circuit .flipFlops))
 
 -- stage 2 gives no verdict
@@ -107,8 +109,11 @@ second : (c : tie.Else1) (f : Fault) → let s = first (c .before) .args in
     Stuck 0 (s .hits .now) (s .masks .now) f → ValidFault (s .c .now) f → stage1 (s .c .now) (s .t .now) f ≡ none → stage2 (s .c .now) (s .t .now) f ≡ none
 second c f stuck fault open-first = let g = first (c .before) .pre .0 in stage2-none _ _ f open-first (g .circuit) (g .test) fault (above (c .before) f stuck .above 0 (omega (arith, c .if1 .left)))
 
-same-length-2 : tie.Need-same-length-2
-same-length-2 c = traced (opened (walked c) .before) .work .given
+same-length-3 : tie.Need-same-length-3
+same-length-3 c = traced (opened (walked c) .before) .before .before .states .given
+
+same-length-5 : tie.Need-same-length-5
+same-length-5 c = traced (opened (walked c) .before) .work .given
 
 returns-2 : tie.Need-returns-2
 returns-2 c =
@@ -116,7 +121,7 @@ returns-2 c =
     let else = opened walk in
     let left = else .before in
     let s = first left in
-    let trace = traced left .before .trace .ensures in
+    let trace = ran (traced left) .trace .ensures in
     let decides = deciding-as (positions s) (c .deciding .ensures) in record {
       opened = λ f stuck fault open-first.
           let lane = stuck 0 (omega arith) in
@@ -138,9 +143,12 @@ middle-stages-spec =
     trace-requires
     open-units-requires
     (λ c. search needs)
+    (λ c. search needs)
     returns
     expand-requires
     mul-deciding
     (λ c κs. search needs)
-    same-length-2
+    same-length-3
+    (λ c. search needs)
+    same-length-5
     returns-2)

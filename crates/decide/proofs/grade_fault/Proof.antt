@@ -1,16 +1,17 @@
-use mathlib.Core.Path.{_≡_, sym, _∙_}
+use mathlib.Core.Path.{_≡_, refl, sym, _∙_}
+use native.Mathlib.Omega.{arith}
 use mathlib.Core.Bool.{false}
 use borrow.Author.Tests.{not-true}
 use Rattle.lanes.specs.Lane.{bit}
 use Rattle.stages.proofs.Laws.{before-5, graded-before}
-use Rattle.batch.proofs.Laws.{graded-1, open-first, none-left}
+use Rattle.places.proofs.Laws.{graded-1, open-first, none-left}
 use borrow.Author.Needs.{needs}
-use Rattle.batch.proofs.grade_fault.Statement.{statement}
-use Rattle.batch.proofs.grade_fault.Tie as tie
+use Rattle.decide.proofs.grade_fault.Statement.{statement}
+use Rattle.decide.proofs.grade_fault.Tie as tie
 
 -- places
 abbrev start : tie.After-has-lane → tie.Start
-start c = c .before .before .before .before .before .before .before .before .before
+start c = c .before .before .before .before .before .before .before .before .before .before .before
 
 abbrev left : tie.After-settle-arg14 → tie.Else2
 left c = c .before .before .before .before .before .before .before .before .before .before .before .before .before .before
@@ -23,7 +24,7 @@ returns : tie.Need-returns
 returns c =
     let then = c .before .before .before in
     let s = start (then .before) in record {
-      verdict = λ known. c .placed .ensures ∙ graded-1 _ _ _ _ _ _ _ known (sym (then .before .has-lane .ensures) ∙ then .if1 .taken) _ _;
+      verdict = λ known. c .placed .ensures ∙ graded-1 known (omega arith) (sym (then .before .has-lane .ensures) ∙ then .if1 .taken) _ _;
       blank = s .pre .2;
       stands = s .pre .1;
     }
@@ -36,21 +37,21 @@ returns-2 c =
     let g = s .pre .0 .tabled in record {
       verdict = λ known.
           c .placed2 .ensures
-          ∙ sym (graded-before _ _ _ _ _ _ (before-5 _ _ _ (open-first _ _ _ _ _ _ _ known (unplaced else)) (g .circuit) (g .test) (s .pre .4)
-          (none-left _ _ _ _ _ _ _ known (unplaced else) (sym (then .before .has-lane2 .ensures) ∙ not-true _ (then .if2 .taken)))));
+          ∙ sym (graded-before _ _ _ _ _ _ (before-5 _ _ _ (open-first known refl (unplaced else)) (g .circuit) (g .test) (s .pre .6)
+          (none-left known refl (unplaced else) (sym (then .before .has-lane2 .ensures) ∙ not-true _ (then .if2 .taken)))));
       blank = s .pre .2;
       stands = s .pre .1;
     }
 
 settle-requires : tie.Need-settle-requires
-settle-requires c κs = let pre = start (left c .before .before .before) .pre in (pre .0, pre .1, pre .2, pre .3, pre .4)
+settle-requires c κs = let pre = start (left c .before .before .before) .pre in (pre .0, pre .1, pre .2, pre .3, pre .4, pre .5, pre .6)
 
 returns-3 : tie.Need-returns-3
 returns-3 c =
-    let settled = c .before .before in
+    let settled = c .before .before .before .before .before .before in
     let else = left (settled .before) .before .before in
     let done = settled .settle .ensures in record {
-      verdict = λ known. done .verdict (open-first _ _ _ _ _ _ _ known (unplaced else));
+      verdict = λ known. done .verdict (open-first known refl (unplaced else));
       blank = done .blank;
       stands = done .stands;
     }
@@ -70,5 +71,7 @@ grade-fault-spec =
     (λ c κs. search needs)
     returns-2
     settle-requires
+    (λ c. search needs)
+    (λ c. search needs)
     (λ c. search needs)
     returns-3)

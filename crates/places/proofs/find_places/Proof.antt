@@ -1,9 +1,9 @@
 use native.Mathlib.Omega.{arith}
 use Rattle.stages.proofs.Laws.{runs}
-use Rattle.batch.proofs.Laws.{batch-of, found-of}
+use Rattle.places.proofs.Laws.{batch-of, found-of}
 use borrow.Author.Needs.{needs}
-use Rattle.batch.proofs.find_places.Statement.{statement}
-use Rattle.batch.proofs.find_places.Tie as tie
+use Rattle.places.proofs.find_places.Statement.{statement}
+use Rattle.places.proofs.find_places.Tie as tie
 
 -- places
 abbrev start : tie.After-give-batch-arg → tie.Start
@@ -19,7 +19,7 @@ give-batch-requires : tie.Need-give-batch-requires
 give-batch-requires c κs =
     let s = start (c .before) in
     let hits = c .before .give-batch-arg .given .0 .1 in
-    (s .pre .2, batch-of (s .pre .3) (s .pre .4) (s .pre .5) _ hits, omega (arith, hits), omega (arith, c .give-batch-arg2 .given .0 .1))
+    (s .pre .2, batch-of (s .pre .3) (s .pre .0 .circuit) _ hits, omega (arith, hits), omega (arith, c .give-batch-arg2 .given .0 .1))
 
 first-places-requires : tie.Need-first-places-requires
 first-places-requires c κs =
@@ -28,6 +28,7 @@ first-places-requires c κs =
     let s = start (given (feed .before .before .before .before .before) .before .before) in (
       runs (s .pre .0) (feed .before .before .before .first-places-arg2 .given .0) (feed .before .first-places-arg4 .given .0) (feed .first-places-arg5 .given .0 .1) (state .before .first-places-arg6 .given .0 .1) (state .first-places-arg7 .given .0 .1),
       omega (arith, s .pre .1 .room),
+      s .pre .3 .few,
       s .pre .4,
       omega (arith, c .before .first-places-arg8 .given .0 .1),
       omega (arith, c .first-places-arg9 .given .0 .1),
@@ -37,7 +38,8 @@ take-batch-requires : tie.Need-take-batch-requires
 take-batch-requires c κs =
     let give = given (powered (c .before .before)) in
     let s = start (give .before .before) in
-    (batch-of (s .pre .3) (s .pre .4) (s .pre .5) _ (c .before .take-batch-arg .given .0 .1), give .give-batch .ensures, omega (arith, c .take-batch-arg2 .given .0 .1))
+    let hits = c .before .take-batch-arg .given .0 .1 in
+    (batch-of (s .pre .3) (s .pre .0 .circuit) _ hits, give .give-batch .ensures, omega (arith, c .take-batch-arg2 .given .0 .1))
 
 returns : tie.Need-returns
 returns c =
@@ -45,7 +47,7 @@ returns c =
     let power = powered places in
     let give = given power in
     let s = start (give .before .before) in
-    (c .take-batch .ensures, found-of (s .pre .3) (s .pre .4) (s .pre .5) (give .give-batch .ensures) (power .power-up .ensures) (s .pre .1 .frees) (places .first-places .ensures))
+    (c .take-batch .ensures, found-of (s .pre .3) (give .give-batch .ensures) (power .power-up .ensures) (s .pre .1 .frees) (places .first-places .ensures))
 
 pub find-places-spec : {M : Type 1} → statement M
 find-places-spec =

@@ -1,0 +1,2 @@
+-- The verdict of one fault.
+pub mod Decide

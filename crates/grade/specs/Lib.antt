@@ -1,0 +1,2 @@
+-- What Grade gives and leaves.
+pub mod Graded

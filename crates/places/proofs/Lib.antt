@@ -1,0 +1,2 @@
+-- Laws of stage 1's places.
+pub mod Laws

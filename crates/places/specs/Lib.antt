@@ -1,0 +1,2 @@
+-- What stage 1 finds of a batch of faults.
+pub mod Found

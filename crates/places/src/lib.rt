@@ -1,0 +1,106 @@
+// Stage 1 of Grade for a batch of faults, up to 64, one to a lane; and the fault-free responses that it looks at.
+ghost use Prim.Native.Nat.{_+_, _*_, _≤_};
+ghost use lib.ListN.{length};
+ghost use Rattle.model.specs.Inputs.{O, L};
+ghost use Rattle.faults.specs.Given.{Blank};
+ghost use Rattle.stages.specs.Stages.{Tabled, Standing};
+ghost use Rattle.places.specs.Found.{Faults, Found};
+use job::Job;
+use plain::Firsts;
+use stages::Feed;
+use stages::Hits;
+use stages::Masks;
+use stages::State;
+use stages::Words;
+
+// The first opposing places of the lanes: their units, or their lines.
+pub type Places = [usize; 64];
+
+// The fault-free responses, at the beginning of the work area.
+pub fn write_free(
+    c: &[u8],
+    job: Job,
+    t: &[u8],
+    pins: &[u16],
+    flops: &[usize],
+    outs: &[usize],
+    hits: &Hits,
+    masks: &Masks,
+    feed: &mut Feed,
+    words: &mut Words,
+    state: &mut State,
+    states: &mut [u8],
+    work: &mut [u8],
+)
+    requires { ⌜ (Tabled (now c) (now t) job (now pins) (now flops) (now outs)) × (Blank (now hits) (now masks)) × (L (now c) (now t) * O (now c) + L (now c) (now t) * O (now c) ≤ length (now work)) ⌝ }
+    ensures { λ _. ⌜ Standing (now (c .entry)) (now (t .entry)) (now (work .exit)) ⌝ }
+{
+    run::power_up(c, job.flops, state);
+    run::write_run(
+        c,
+        job,
+        t,
+        0,
+        pins,
+        flops,
+        outs,
+        hits,
+        masks,
+        feed,
+        words,
+        state,
+        0,
+        work,
+        states,
+    );
+}
+
+// Stage 1 of a batch over the first so many units, one fault to a lane: the lanes that have a place, whose unit and line are noted, and those
+// that have something left to show.
+pub fn find_places(
+    c: &[u8],
+    job: Job,
+    t: &[u8],
+    fs: &[u8],
+    from: usize,
+    count: usize,
+    units: usize,
+    free: &[u8],
+    pins: &[u16],
+    flops: &[usize],
+    outs: &[usize],
+    hits: &mut Hits,
+    masks: &mut Masks,
+    feed: &mut Feed,
+    words: &mut Words,
+    state: &mut State,
+    moments: &mut Places,
+    lines: &mut Places,
+) -> Firsts
+    requires { ⌜ (Tabled (now c) (now t) job (now pins) (now flops) (now outs)) × (Standing (now c) (now t) (now free)) × (Blank (now hits) (now masks))
+        × (Faults (now c) (now fs) from count) × (units ≤ L (now c) (now t)) ⌝ }
+    ensures { λ r. ⌜ (Blank (now (hits .exit)) (now (masks .exit))) × (Found (now (c .entry)) (now (t .entry)) (now (fs .entry)) from count units r (now (moments .exit)) (now (lines .exit))) ⌝ }
+{
+    faults::give_batch(fs, from, count, hits, masks);
+    run::power_up(c, job.flops, state);
+    let firsts = plain::first_places(
+        c,
+        job,
+        t,
+        free,
+        count,
+        units,
+        pins,
+        flops,
+        outs,
+        hits,
+        masks,
+        feed,
+        words,
+        state,
+        moments,
+        lines,
+    );
+    faults::take_batch(fs, from, count, hits, masks);
+    firsts
+}

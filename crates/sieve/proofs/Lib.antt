@@ -1,0 +1,2 @@
+-- Laws of the sieve.
+pub mod Laws

@@ -1,0 +1,2 @@
+-- What the sieve leaves in an area, and the packs of open faults.
+pub mod Sieve
