@@ -1,7 +1,7 @@
 // Picking pairs for Choose, one after another, each the best of those that stage 5 would take next. All pairs are weighed once, and after a pick
 // those of its unit again.
 ghost use mathlib.Core.Path.{_≡_};
-ghost use Prim.Native.Nat.{_*_, _<_, _≤_};
+ghost use Prim.Native.Nat.{_+_, _*_, _<_, _≤_};
 ghost use lib.ListN.{length};
 ghost use Rattle.model.specs.Inputs.{F, O, L};
 ghost use Rattle.best.specs.Best.{AtMost, mostNout, mostMerit};
@@ -37,9 +37,7 @@ fn weigh_all(
     free: &Table,
     states: &Table,
     list: &Table,
-    left: usize,
     reach: usize,
-    merits: &Counts,
     pins: &[u16],
     flops: &[usize],
     outs: &[usize],
@@ -55,7 +53,7 @@ fn weigh_all(
     table: &mut [u8],
 )
     requires { ⌜ (Tabled (now c) (now t) job (now pins) (now flops) (now outs)) × (0 < reach) × (reach ≤ L (now c) (now t)) × (4 * (F (now c) * reach) ≤ length (now table)) ⌝ }
-    ensures { λ _. ⌜ AllWeighed (now (c .entry)) (now (t .entry)) (now (free .entry)) (now (states .entry)) (now (list .entry)) (now (hits .entry)) (now (masks .entry)) (now (merits .entry)) left reach
+    ensures { λ _. ⌜ AllWeighed (now (c .entry)) (now (t .entry)) (now (free .entry)) (now (states .entry)) (now (list .entry)) (now (hits .entry)) (now (masks .entry)) reach
         (now (times .entry)) (now (extras .exit)) (now (table .exit)) ⌝ }
 {
     weigh::weigh_start(job.flops, list, 0, times, extras, table);
@@ -68,7 +66,6 @@ fn weigh_all(
         list,
         job.flops,
         job.flops * reach,
-        left,
         0,
         pins,
         flops,
@@ -94,12 +91,9 @@ fn weigh_again(
     free: &Table,
     states: &Table,
     list: &Table,
-    left: usize,
-    reach: usize,
     u: usize,
     m: usize,
     k: usize,
-    merits: &Counts,
     pins: &[u16],
     flops: &[usize],
     outs: &[usize],
@@ -114,8 +108,8 @@ fn weigh_again(
     extras: &mut Extras,
     table: &mut [u8],
 )
-    requires { ⌜ (Tabled (now c) (now t) job (now pins) (now flops) (now outs)) × (u < reach) × (reach ≤ L (now c) (now t)) × (k ≤ 12) × (4 * (F (now c) * reach) ≤ length (now table)) ⌝ }
-    ensures { λ _. ⌜ WeighedAgain (now (c .entry)) (now (t .entry)) (now (free .entry)) (now (states .entry)) (now (list .entry)) (now (hits .entry)) (now (masks .entry)) (now (merits .entry)) left reach u m k
+    requires { ⌜ (Tabled (now c) (now t) job (now pins) (now flops) (now outs)) × (u < L (now c) (now t)) × (k ≤ 12) × (4 * (F (now c) * u + F (now c)) ≤ length (now table)) ⌝ }
+    ensures { λ _. ⌜ WeighedAgain (now (c .entry)) (now (t .entry)) (now (free .entry)) (now (states .entry)) (now (list .entry)) (now (hits .entry)) (now (masks .entry)) u m k
         (now (times .entry)) (now (extras .entry)) (now (table .entry)) (now (extras .exit)) (now (table .exit)) ⌝ }
 {
     if m >= k {
@@ -135,7 +129,6 @@ fn weigh_again(
         list,
         from,
         from + job.flops,
-        left,
         m,
         pins,
         flops,
@@ -226,12 +219,9 @@ fn pick_pairs(
             free,
             states,
             list,
-            left,
-            reach,
             best.unit,
             m,
             k,
-            merits,
             pins,
             flops,
             outs,
@@ -292,9 +282,7 @@ pub fn choose_pairs(
         free,
         states,
         list,
-        left,
         reach,
-        merits,
         pins,
         flops,
         outs,

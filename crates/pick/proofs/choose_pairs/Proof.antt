@@ -21,7 +21,7 @@ abbrev begin : tie.After-reached → tie.Start
 begin c = start (c .before)
 
 abbrev merited : tie.After-weigh-all → tie.After-set-merits
-merited c = c .before .before .before .before .before .before .before .before .before .before .before
+merited c = c .before .before .before .before .before .before .before .before .before .before
 
 abbrev weighed : tie.After-pick-pairs → tie.After-work
 weighed c = c .before .before .before .before .before .before .before .before .before .before .before .before .before
@@ -70,7 +70,7 @@ set-merits-requires c κs =
 
 weigh-all-requires : tie.Need-weigh-all-requires
 weigh-all-requires c κs =
-    let at = reach (c .before .before .before .before .before .before .before .before .before .before) in
+    let at = reach (c .before .before .before .before .before .before .before .before .before) in
     let s = begin at in
     (s .pre .0, reach-some _ _ _ (units at) (s .pre .0 .test .some), few at, entry-room at)
 
@@ -93,7 +93,7 @@ returns c = record {
       let s = start copy in
       let g = s .pre .0 in
       let p = picking (units at) (g .sizes .flops) (merits .set-merits .ensures) f _ _ _ ready three nouts (copy .copy-row .ensures) (response-size (g .sizes)) (omega (arith, response-size (g .sizes), s .pre .2)) in
-      pick .pick-pairs .ensures .records f p (work .before .weigh-all .ensures .first f p _ _);
+      pick .pick-pairs .ensures .records f p (work .before .weigh-all .ensures .first f _ _ p _ _);
 }
 
 pub choose-pairs-spec : {M : Type 1} → statement M

@@ -2,10 +2,10 @@
 use mathlib.Core.Path.{_≡_, refl, _∙_}
 use Prim.Native.Nat.{_+_, _*_, _-_, _<_, _≤_}
 use native.Mathlib.Omega.{arith}
-use native.Mathlib.Nat.{mul-le-mul}
+use native.Mathlib.Nat.{mul-le-mul, mul-comm}
 use lib.ListN.{length}
-use Rattle.lists.proofs.Field.{length-lent}
-use Rattle.model.specs.Inputs.{Fault}
+use Rattle.lists.proofs.Field.{length-lent, row-fits}
+use Rattle.model.specs.Inputs.{F, Fault}
 use Rattle.model.specs.Choose.{bestPairs}
 use Rattle.best.specs.Best.{Picked}
 use Rattle.stages.proofs.Laws.{runs, table-room, extra-room}
@@ -48,6 +48,9 @@ best c = c .before .before
 -- there is a pair
 scored : (c : tie.Else1 Inv-loop μ-loop) → 0 < best c .best-pair .result .score
 scored c = omega (arith, c .if1 .left)
+
+below : (c : tie.Else1 Inv-loop μ-loop) → best c .best-pair .result .unit < start (turn (best c) .before) .args .reach
+below c = best c .best-pair .ensures .inside .unit (scored c)
 
 -- the next pair, or that there is none
 next : (c : tie.After-best-pair Inv-loop μ-loop) (f : Fault) → let l = turn c .before in let a = start l .args in
@@ -122,7 +125,7 @@ weigh-again-requires c κs =
     let else = found (took (c .before .before .before .before .before .before .before .before .before)) in
     let l = turn (best else) .before in
     let s = start l in
-    (s .pre .0, best else .best-pair .ensures .inside .unit (scored else), s .pre .1, s .pre .2, omega (arith, s .pre .3, l .loop .inv .1))
+    (s .pre .0, omega (arith, below else, s .pre .1), s .pre .2, omega (arith, row-fits (F (s .args .c .now)) _ _ (below else), mul-comm (F (s .args .c .now)) (s .args .reach), s .pre .3, l .loop .inv .1))
 
 loop-again : tie.Need-loop-again Inv-loop μ-loop
 loop-again c =
@@ -138,7 +141,7 @@ loop-again c =
       omega (arith, wrote .result .given, l .loop .inv .2),
       λ f p first.
           let done = l .loop .inv .3 f p first in
-          picked-next p (next (best else) f p first .found (scored else)) (in-loop .loop-test .taken) (omega (arith, s .pre .3, l .loop .inv .1)) done
+          picked-next p (next (best else) f p first .found (scored else)) (below else) (in-loop .loop-test .taken) (omega (arith, s .pre .3, l .loop .inv .1)) done
           (take .take-pair .ensures .next f _ (p .ready) (done .taken)) (wrote .before .put-two .ensures) (again .weigh-again .ensures),
     )
 

@@ -1,6 +1,6 @@
 use Prim.Native.Nat.{_+_, _*_, _≤_}
 use native.Mathlib.Omega.{arith}
-use native.Mathlib.Nat.{mul-le-mul, mul-le-mul-left, mul-comm}
+use native.Mathlib.Nat.{mul-le-mul, mul-le-mul-left}
 use Rattle.lists.proofs.Field.{row-fits}
 use Rattle.model.specs.Inputs.{F, L}
 use Rattle.pick.proofs.Laws.{again-start, again-unit}
@@ -24,12 +24,9 @@ later c = c .before .before
 flops-few : (s : tie.Start) → s .args .job .flops ≤ 256
 flops-few s = omega (arith, s .pre .0 .sizes .flops, s .pre .0 .circuit .flipFlops)
 
--- the unit's entries are in the table
-unit-room : (s : tie.Start) → let a = s .args in F (a .c .now) * a .u + F (a .c .now) ≤ F (a .c .now) * a .reach
-unit-room s = let a = s .args in omega (arith, row-fits (F (a .c .now)) (a .u) (a .reach) (s .pre .1), mul-comm (F (a .c .now)) (a .reach))
-
-positions : (s : tie.Start) → let a = s .args in F (a .c .now) * a .reach ≤ L (a .c .now) (a .t .now) * F (a .c .now)
-positions s = let a = s .args in omega (arith, mul-le-mul-left (F (a .c .now)) (s .pre .2), mul-comm (F (a .c .now)) (L (a .c .now) (a .t .now)))
+-- the unit's entries are among those of the test
+inside : (s : tie.Start) → let a = s .args in F (a .c .now) * a .u + F (a .c .now) ≤ L (a .c .now) (a .t .now) * F (a .c .now)
+inside s = row-fits (F (s .args .c .now)) (s .args .u) _ (s .pre .1)
 
 returns : tie.Need-returns
 returns c = record {
@@ -41,7 +38,7 @@ weigh-start-requires : tie.Need-weigh-start-requires
 weigh-start-requires c κs =
     let then = c .before .before in
     let s = start (then .before .before) in
-    (flops-few s, omega (arith, then .before .if1 .left, s .pre .3), omega (arith, unit-room s, s .pre .4, s .pre .0 .sizes .flops))
+    (flops-few s, omega (arith, then .before .if1 .left, s .pre .2), omega (arith, s .pre .3, s .pre .0 .sizes .flops))
 
 returns-2 : tie.Need-returns-2
 returns-2 c =
@@ -49,12 +46,12 @@ returns-2 c =
     let then = begun ran in
     let s = start (then .before .before) in
     let g = s .pre .0 in record {
-      entries = λ _ f pairs p taken. again-start p (g .test) pairs (g .sizes .flops) (then .if2 .taken) (s .pre .1) (ran .weigh-start .ensures) taken;
+      entries = λ _ f pairs merits left reach p below taken. again-start p (g .test) pairs (g .sizes .flops) (then .if2 .taken) below (ran .weigh-start .ensures) taken;
       taken = λ f pairs h _. absurd (let z : ⊥ = omega (arith, h, then .before .if1 .left) in z);
     }
 
 mul-from : tie.Need-mul-from
-mul-from c = let s = start (c .before .before .before) in rw (s .pre .0 .sizes .flops) (omega (arith, unit-room s, positions s, mul-le-mul (s .pre .0 .test .most) (s .pre .0 .circuit .flipFlops)))
+mul-from c = let s = start (c .before .before .before) in rw (s .pre .0 .sizes .flops) (omega (arith, inside s, mul-le-mul (s .pre .0 .test .most) (s .pre .0 .circuit .flipFlops)))
 
 weigh-requires : tie.Need-weigh-requires
 weigh-requires c κs =
@@ -66,9 +63,9 @@ weigh-requires c κs =
       g,
       rw (g .sizes .flops) (let up : F cs * 1 ≤ F cs * s .args .u = mul-le-mul-left (F cs) (let z : 1 ≤ s .args .u = omega (arith, else .if2 .left) in z) in omega arith),
       omega arith,
-      rw (g .sizes .flops) (omega (arith, unit-room s, positions s)),
-      omega (arith, else .before .if1 .left, s .pre .3),
-      rw (g .sizes .flops) (omega (arith, unit-room s, s .pre .4)),
+      rw (g .sizes .flops) (inside s),
+      omega (arith, else .before .if1 .left, s .pre .2),
+      rw (g .sizes .flops) (s .pre .3),
     )
 
 returns-3 : tie.Need-returns-3
@@ -77,7 +74,7 @@ returns-3 c =
     let else = later (asked ran) in
     let s = start (else .before .before) in
     let g = s .pre .0 in record {
-      entries = λ _ f pairs p taken. again-unit p (g .test) pairs (g .sizes .flops) (s .pre .1) (ran .weigh .ensures) taken;
+      entries = λ _ f pairs merits left reach p below taken. again-unit p (g .test) pairs (g .sizes .flops) below (ran .weigh .ensures) taken;
       taken = λ f pairs h _. absurd (let z : ⊥ = omega (arith, h, else .before .if1 .left) in z);
     }
 
@@ -90,7 +87,7 @@ weigh-again-spec =
     (λ c. c .before .table .given)
     returns-2
     mul-from
-    (λ c. let s = start (later c .before .before) in rw (s .pre .0 .sizes .flops) (omega (arith, unit-room s, positions s, mul-le-mul (s .pre .0 .test .most) (s .pre .0 .circuit .flipFlops))))
+    (λ c. let s = start (later c .before .before) in rw (s .pre .0 .sizes .flops) (omega (arith, inside s, mul-le-mul (s .pre .0 .test .most) (s .pre .0 .circuit .flipFlops))))
     weigh-requires
     (λ c. c .before .table2 .given)
     returns-3)

@@ -50,7 +50,7 @@ weigh-requires c κs =
 
 returns : tie.Need-returns
 returns c = record {
-  first = λ f p k area.
+  first = λ f merits left p k area.
       let ran = c .before .before in
       let at = asked (ran .before) in
       let begun = first at in

@@ -16,13 +16,13 @@ use Rattle.weigh.proofs.weigh.Statement.{statement}
 use Rattle.weigh.proofs.weigh.Tie as tie
 
 abbrev Inv-loop : tie.InvT-loop
-Inv-loop c job t free states list from to left m pins flops outs hits masks feed₀ words₀ state₀ units₀ bits₀ times extras₀ table₀ at₀ feed words state units bits extras table at =
+Inv-loop c job t free states list from to m pins flops outs hits masks feed₀ words₀ state₀ units₀ bits₀ times extras₀ table₀ at₀ feed words state units bits extras table at =
     (from ≤ at) × (at ≤ to) × (length table ≡ length table₀)
-    × ((f : Fault) (pairs : List (ℕ × ℕ)) (count stop : ℕ) → Prepared c t free states list hits masks left f → Weighing c t f pairs count stop states list m times extras₀ → to ≤ stop
+    × ((f : Fault) (pairs : List (ℕ × ℕ)) (count stop left : ℕ) → Prepared c t free states list hits masks left f → Weighing c t f pairs count stop states list m times extras₀ → to ≤ stop
     → Entries c t f pairs m times from at table₀ extras table)
 
 abbrev μ-loop : tie.MeasureT-loop
-μ-loop c job t free states list from to left m pins flops outs hits masks feed₀ words₀ state₀ units₀ bits₀ times extras₀ table₀ at₀ feed words state units bits extras table at = to - at
+μ-loop c job t free states list from to m pins flops outs hits masks feed₀ words₀ state₀ units₀ bits₀ times extras₀ table₀ at₀ feed words state units bits extras table at = to - at
 
 -- places
 abbrev Loop : Type 0
@@ -49,7 +49,7 @@ word c = filled (tried c)
 loop-holds : tie.Need-loop-holds Inv-loop μ-loop
 loop-holds c =
     let s = c .before .before .before .before .before .before in
-    (omega arith, omega (arith, s .pre .2), refl, λ f pairs count stop ready w last. entries-none _ _ f pairs _ _ _ _ _ (w .taken))
+    (omega arith, omega (arith, s .pre .2), refl, λ f pairs count stop left ready w last. entries-none _ _ f pairs _ _ _ _ _ (w .taken))
 
 -- there is a flip-flop
 width : (c : tie.In-loop Inv-loop μ-loop) → 0 < start (c .before) .args .job .flops
@@ -134,8 +134,8 @@ loop-again c =
       omega (arith, loop .inv .0, fill .fill .ensures .1),
       fill .fill .ensures .2,
       c .before .table .given ∙ loop .inv .2,
-      λ f pairs count stop ready w last.
-          let old = loop .inv .3 f pairs count stop ready w last in
+      λ f pairs count stop left ready w last.
+          let old = loop .inv .3 f pairs count stop left ready w last in
           entries-join _ _ f pairs _ _ (s .args .from) (loop .at) (fill .fill .result .next) (s .args .table .now) (loop .table) _ _ _ (loop .inv .0) (omega (arith, fill .fill .ensures .1)) (omega (arith, fill .fill .ensures .2, s .pre .5))
           (loop .inv .2) old
           (weighed .weigh-word .ensures .entries _ _ f pairs stop (weighing-again w (g .sizes .flops) (old .taken))
@@ -146,10 +146,10 @@ loop-again c =
 
 returns : tie.Need-returns Inv-loop μ-loop
 returns c = record {
-  entries = λ f pairs count stop ready w last.
+  entries = λ f pairs count stop left ready w last.
       let loop = c .before .loop in
       let end : loop .at ≡ start (c .before) .args .to = omega (arith, loop .inv .1, c .loop-test .left) in
-      rw (← end) (loop .inv .3 f pairs count stop ready w last);
+      rw (← end) (loop .inv .3 f pairs count stop left ready w last);
 }
 
 pub weigh-spec : {M : Type 1} → statement M
