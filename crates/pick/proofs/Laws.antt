@@ -161,12 +161,14 @@ taken-none c t f times extras = record { count = refl; time = λ q h. absurd (le
 
 module _ {c t : List ℕ} {f : Fault} {free states list hits masks merits : List ℕ} {left reach : ℕ} (p : Picking c t f free states list hits masks merits left reach) (test : ValidTest c t) where
   module _ {count : ℕ} (width : count ≡ F c) (table times extras extras′ table′ table″ : List ℕ) {extras″ : List ℕ} (unit : F c ≤ F c * reach) (room : 4 * (F c * reach) ≤ length table) (long : length table′ ≡ length table)
-      (first : WeighedStart count list 0 times extras table extras′ table′) (rest : WeighedFrom c t free states list hits masks count (count * reach) 0 times extras′ table′ extras″ table″) where
+      (first : WeighedStart count list 0 times extras table extras′ table′)
+      (rest : WeighedFrom c t free states list hits masks count (count * reach) 0 times extras′ table′ extras″ table″) where
     entries : Entries c t f (bestPairs c t f 0) 0 times 0 (F c * reach) table extras″ table″
     entries =
         let old = first .entries c t f (bestPairs c t f 0) (F c * reach) states (weighing-of p test (bestPairs c t f 0) count 0 times extras width (taken-none c t f times extras)) unit in
         entries-join c t f (bestPairs c t f 0) 0 times 0 (F c) (F c * reach) table table′ table″ extras′ extras″ (omega arith) unit room long old
-        (rw width at (rest .entries f (bestPairs c t f 0) count (F c * reach) left (p .ready) (weighing-of p test (bestPairs c t f 0) count 0 times extras′ width (old .taken)) (rw width (omega arith))))
+        (rw width at (rest .entries f (bestPairs c t f 0) count (F c * reach) left (p .ready)
+        (weighing-of p test (bestPairs c t f 0) count 0 times extras′ width (old .taken)) (rw width (omega arith))))
 
     pub all-weighed : (k : ℕ) (area : List ℕ) → PickedTo c t f reach 0 k times extras″ table″ area area
     unfolding bestPairs planBytes
@@ -186,16 +188,19 @@ module _ {c t : List ℕ} {f : Fault} {free states list hits masks merits : List
         let to : F c * u + F c ≡ F c = omega arith in
         rw (to, from) (done .entries c t f pairs (F c * reach) states (weighing-of p test pairs count m times extras width taken) (omega arith))
 
-    pub again-unit : u < reach → WeighedFrom c t free states list hits masks (count * u) (count * u + count) m times extras table extras′ table′ → Taken c t f pairs m times extras
-        → Entries c t f pairs m times (F c * u) (F c * u + F c) table extras′ table′
+    pub again-unit : u < reach → WeighedFrom c t free states list hits masks (count * u) (count * u + count) m times extras table extras′ table′
+        → Taken c t f pairs m times extras → Entries c t f pairs m times (F c * u) (F c * u + F c) table extras′ table′
     again-unit inside done taken =
-        rw width at (done .entries f pairs count (F c * reach) left (p .ready) (weighing-of p test pairs count m times extras width taken) (rw width (omega (arith, row-fits (F c) u reach inside, mul-comm (F c) reach))))
+        rw width at (done .entries f pairs count (F c * reach) left (p .ready) (weighing-of p test pairs count m times extras width taken)
+        (rw width (omega (arith, row-fits (F c) u reach inside, mul-comm (F c) reach))))
 
 -- ---- one pick more
 module _ {c t : List ℕ} {f : Fault} {free states list hits masks merits : List ℕ} {left reach : ℕ} (p : Picking c t f free states list hits masks merits left reach) where
-  pub picked-next : {m k u i r : ℕ} {times times′ extras extras′ extras″ table table′ old area end : List ℕ} → nextPair c t f (bestPairs c t f m) ≡ some (u, i) → u < reach → m < k → 4 * (F c * reach) ≤ length table
+  pub picked-next : {m k u i r : ℕ} {times times′ extras extras′ extras″ table table′ old area end : List ℕ}
+      → nextPair c t f (bestPairs c t f m) ≡ some (u, i) → u < reach → m < k → 4 * (F c * reach) ≤ length table
       → PickedTo c t f reach m k times extras table old area → Taken c t f (takeNext c t f k (bestPairs c t f m) (u, i)) r times′ extras′
-      → end ≡ overwritten (bytes16 u ++ bytes16 i) (take (length area - 4 * m) (drop (4 * m) area)) → WeighedAgain c t free states list hits masks u (m + 1) k times′ extras′ table extras″ table′
+      → end ≡ overwritten (bytes16 u ++ bytes16 i) (take (length area - 4 * m) (drop (4 * m) area))
+      → WeighedAgain c t free states list hits masks u (m + 1) k times′ extras′ table extras″ table′
       → PickedTo c t f reach (m + 1) k times′ extras″ table′ old (take (4 * m) area ++ (end ++ drop (length area - 4 * m) (drop (4 * m) area)))
   picked-next {m} {k} {u} {i} {r} {times} {times′} {extras} {extras′} {extras″} {table} {table′} {old} {area} {end} next inside below room done took written again =
       let more = bestPairs-more c t f m (u, i) next in
@@ -204,7 +209,9 @@ module _ {c t : List ℕ} {f : Fault} {free states list hits masks merits : List
           | yes h ↦ again .taken f _ h taken
           | no h ↦ again .entries (omega arith) f _ merits left reach p inside taken .taken
         ];
-        weighed = λ h. rw more (weighed-again c t f (bestPairs c t f m) u i reach (m + 1) times′ extras″ table table′ room (done .weighed below) (rw more at (again .entries h f _ merits left reach p inside taken)));
+        weighed = λ h. rw more
+            (weighed-again c t f (bestPairs c t f m) u i reach (m + 1) times′ extras″ table table′ room (done .weighed below)
+            (rw more at (again .entries h f _ merits left reach p inside taken)));
         records = records-next c t f m k u i next old area end (done .taken .count) (done .records) written;
       }
 

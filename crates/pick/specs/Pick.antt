@@ -35,11 +35,13 @@ pub record PickedTo (c t : List ℕ) (f : Fault) (reach m k : ℕ) (times extras
 
 -- the table is weighed for the first pick
 pub record AllWeighed (c t free states list hits masks : List ℕ) (reach : ℕ) (times extras table : List ℕ) : Type 0 where
-  pub first : (f : Fault) (merits : List ℕ) (left : ℕ) → Picking c t f free states list hits masks merits left reach → (k : ℕ) (area : List ℕ) → PickedTo c t f reach 0 k times extras table area area
+  pub first : (f : Fault) (merits : List ℕ) (left : ℕ) → Picking c t f free states list hits masks merits left reach
+      → (k : ℕ) (area : List ℕ) → PickedTo c t f reach 0 k times extras table area area
 
 -- after a pick at unit u, the entries of that unit again, if there is to be one more
 pub record WeighedAgain (c t free states list hits masks : List ℕ) (u m k : ℕ) (times extras table extras′ table′ : List ℕ) : Type 0 where
-  pub entries : m < k → (f : Fault) (pairs : List (ℕ × ℕ)) (merits : List ℕ) (left reach : ℕ) → Picking c t f free states list hits masks merits left reach → u < reach → Taken c t f pairs m times extras
+  pub entries : m < k → (f : Fault) (pairs : List (ℕ × ℕ)) (merits : List ℕ) (left reach : ℕ)
+      → Picking c t f free states list hits masks merits left reach → u < reach → Taken c t f pairs m times extras
       → Entries c t f pairs m times (F c * u) (F c * u + F c) table extras′ table′
   pub taken : (f : Fault) (pairs : List (ℕ × ℕ)) → k ≤ m → Taken c t f pairs m times extras → Taken c t f pairs m times extras′
 

@@ -53,8 +53,8 @@ fn weigh_all(
     table: &mut [u8],
 )
     requires { ⌜ (Tabled (now c) (now t) job (now pins) (now flops) (now outs)) × (0 < reach) × (reach ≤ L (now c) (now t)) × (4 * (F (now c) * reach) ≤ length (now table)) ⌝ }
-    ensures { λ _. ⌜ AllWeighed (now (c .entry)) (now (t .entry)) (now (free .entry)) (now (states .entry)) (now (list .entry)) (now (hits .entry)) (now (masks .entry)) reach
-        (now (times .entry)) (now (extras .exit)) (now (table .exit)) ⌝ }
+    ensures { λ _. ⌜ AllWeighed (now (c .entry)) (now (t .entry)) (now (free .entry)) (now (states .entry)) (now (list .entry)) (now (hits .entry))
+        (now (masks .entry)) reach (now (times .entry)) (now (extras .exit)) (now (table .exit)) ⌝ }
 {
     weigh::weigh_start(job.flops, list, 0, times, extras, table);
     weigh::weigh(
@@ -108,9 +108,10 @@ fn weigh_again(
     extras: &mut Extras,
     table: &mut [u8],
 )
-    requires { ⌜ (Tabled (now c) (now t) job (now pins) (now flops) (now outs)) × (u < L (now c) (now t)) × (k ≤ 12) × (4 * (F (now c) * u + F (now c)) ≤ length (now table)) ⌝ }
-    ensures { λ _. ⌜ WeighedAgain (now (c .entry)) (now (t .entry)) (now (free .entry)) (now (states .entry)) (now (list .entry)) (now (hits .entry)) (now (masks .entry)) u m k
-        (now (times .entry)) (now (extras .entry)) (now (table .entry)) (now (extras .exit)) (now (table .exit)) ⌝ }
+    requires { ⌜ (Tabled (now c) (now t) job (now pins) (now flops) (now outs)) × (u < L (now c) (now t)) × (k ≤ 12)
+        × (4 * (F (now c) * u + F (now c)) ≤ length (now table)) ⌝ }
+    ensures { λ _. ⌜ WeighedAgain (now (c .entry)) (now (t .entry)) (now (free .entry)) (now (states .entry)) (now (list .entry)) (now (hits .entry))
+        (now (masks .entry)) u m k (now (times .entry)) (now (extras .entry)) (now (table .entry)) (now (extras .exit)) (now (table .exit)) ⌝ }
 {
     if m >= k {
         return;

@@ -68,8 +68,8 @@ pub record WeighedWord (count : ℕ) (states list after : List ℕ) (marks at ne
 
 -- the entries of the pairs between two positions
 pub record WeighedFrom (c t free states list hits masks : List ℕ) (from to m : ℕ) (times extras table extras′ table′ : List ℕ) : Type 0 where
-  pub entries : (f : Fault) (pairs : List (ℕ × ℕ)) (count stop left : ℕ) → Prepared c t free states list hits masks left f → Weighing c t f pairs count stop states list m times extras
-      → to ≤ stop → Entries c t f pairs m times from to table extras′ table′
+  pub entries : (f : Fault) (pairs : List (ℕ × ℕ)) (count stop left : ℕ) → Prepared c t free states list hits masks left f
+      → Weighing c t f pairs count stop states list m times extras → to ≤ stop → Entries c t f pairs m times from to table extras′ table′
 
 -- the entry of (0, i)
 pub record WeighedFirst (count : ℕ) (list : List ℕ) (i m : ℕ) (times extras table extras′ table′ : List ℕ) : Type 0 where

@@ -165,8 +165,8 @@ pub fn weigh(
 )
     requires { ⌜ (Tabled (now c) (now t) job (now pins) (now flops) (now outs)) × (F (now c) ≤ from) × (from ≤ to) × (to ≤ L (now c) (now t) * F (now c)) × (m < 12)
         × (4 * to ≤ length (now table)) ⌝ }
-    ensures { λ _. ⌜ WeighedFrom (now (c .entry)) (now (t .entry)) (now (free .entry)) (now (states .entry)) (now (list .entry)) (now (hits .entry)) (now (masks .entry)) from to m
-        (now (times .entry)) (now (extras .entry)) (now (table .entry)) (now (extras .exit)) (now (table .exit)) ⌝ }
+    ensures { λ _. ⌜ WeighedFrom (now (c .entry)) (now (t .entry)) (now (free .entry)) (now (states .entry)) (now (list .entry)) (now (hits .entry))
+        (now (masks .entry)) from to m (now (times .entry)) (now (extras .entry)) (now (table .entry)) (now (extras .exit)) (now (table .exit)) ⌝ }
 {
     let mut at = from;
     while at < to {

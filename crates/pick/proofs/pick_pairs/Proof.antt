@@ -125,7 +125,12 @@ weigh-again-requires c κs =
     let else = found (took (c .before .before .before .before .before .before .before .before .before)) in
     let l = turn (best else) .before in
     let s = start l in
-    (s .pre .0, omega (arith, below else, s .pre .1), s .pre .2, omega (arith, row-fits (F (s .args .c .now)) _ _ (below else), mul-comm (F (s .args .c .now)) (s .args .reach), s .pre .3, l .loop .inv .1))
+    let count = F (s .args .c .now) in (
+      s .pre .0,
+      omega (arith, below else, s .pre .1),
+      s .pre .2,
+      omega (arith, row-fits count _ _ (below else), mul-comm count (s .args .reach), s .pre .3, l .loop .inv .1),
+    )
 
 loop-again : tie.Need-loop-again Inv-loop μ-loop
 loop-again c =
@@ -141,8 +146,9 @@ loop-again c =
       omega (arith, wrote .result .given, l .loop .inv .2),
       λ f p first.
           let done = l .loop .inv .3 f p first in
-          picked-next p (next (best else) f p first .found (scored else)) (below else) (in-loop .loop-test .taken) (omega (arith, s .pre .3, l .loop .inv .1)) done
-          (take .take-pair .ensures .next f _ (p .ready) (done .taken)) (wrote .before .put-two .ensures) (again .weigh-again .ensures),
+          picked-next p (next (best else) f p first .found (scored else)) (below else) (in-loop .loop-test .taken)
+          (omega (arith, s .pre .3, l .loop .inv .1)) done (take .take-pair .ensures .next f _ (p .ready) (done .taken)) (wrote .before .put-two .ensures)
+          (again .weigh-again .ensures),
     )
 
 returns-2 : tie.Need-returns-2 Inv-loop μ-loop

@@ -28,6 +28,9 @@ flops-few s = omega (arith, s .pre .0 .sizes .flops, s .pre .0 .circuit .flipFlo
 inside : (s : tie.Start) → let a = s .args in F (a .c .now) * a .u + F (a .c .now) ≤ L (a .c .now) (a .t .now) * F (a .c .now)
 inside s = row-fits (F (s .args .c .now)) (s .args .u) _ (s .pre .1)
 
+positions-few : (s : tie.Start) → s .args .job .flops * s .args .u + s .args .job .flops ≤ 262144
+positions-few s = let g = s .pre .0 in rw (g .sizes .flops) (omega (arith, inside s, mul-le-mul (g .test .most) (g .circuit .flipFlops)))
+
 returns : tie.Need-returns
 returns c = record {
   entries = λ h. absurd (let z : ⊥ = omega (arith, h, c .if1 .taken) in z);
@@ -46,12 +49,13 @@ returns-2 c =
     let then = begun ran in
     let s = start (then .before .before) in
     let g = s .pre .0 in record {
-      entries = λ _ f pairs merits left reach p below taken. again-start p (g .test) pairs (g .sizes .flops) (then .if2 .taken) below (ran .weigh-start .ensures) taken;
+      entries = λ _ f pairs merits left reach p below taken.
+          again-start p (g .test) pairs (g .sizes .flops) (then .if2 .taken) below (ran .weigh-start .ensures) taken;
       taken = λ f pairs h _. absurd (let z : ⊥ = omega (arith, h, then .before .if1 .left) in z);
     }
 
 mul-from : tie.Need-mul-from
-mul-from c = let s = start (c .before .before .before) in rw (s .pre .0 .sizes .flops) (omega (arith, inside s, mul-le-mul (s .pre .0 .test .most) (s .pre .0 .circuit .flipFlops)))
+mul-from c = omega (arith, positions-few (start (c .before .before .before)))
 
 weigh-requires : tie.Need-weigh-requires
 weigh-requires c κs =
@@ -74,7 +78,8 @@ returns-3 c =
     let else = later (asked ran) in
     let s = start (else .before .before) in
     let g = s .pre .0 in record {
-      entries = λ _ f pairs merits left reach p below taken. again-unit p (g .test) pairs (g .sizes .flops) below (ran .weigh .ensures) taken;
+      entries = λ _ f pairs merits left reach p below taken.
+          again-unit p (g .test) pairs (g .sizes .flops) below (ran .weigh .ensures) taken;
       taken = λ f pairs h _. absurd (let z : ⊥ = omega (arith, h, else .before .if1 .left) in z);
     }
 
@@ -87,7 +92,7 @@ weigh-again-spec =
     (λ c. c .before .table .given)
     returns-2
     mul-from
-    (λ c. let s = start (later c .before .before) in rw (s .pre .0 .sizes .flops) (omega (arith, inside s, mul-le-mul (s .pre .0 .test .most) (s .pre .0 .circuit .flipFlops))))
+    (λ c. omega (arith, positions-few (start (later c .before .before))))
     weigh-requires
     (λ c. c .before .table2 .given)
     returns-3)

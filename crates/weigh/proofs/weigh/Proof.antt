@@ -18,8 +18,8 @@ use Rattle.weigh.proofs.weigh.Tie as tie
 abbrev Inv-loop : tie.InvT-loop
 Inv-loop c job t free states list from to m pins flops outs hits masks feed₀ words₀ state₀ units₀ bits₀ times extras₀ table₀ at₀ feed words state units bits extras table at =
     (from ≤ at) × (at ≤ to) × (length table ≡ length table₀)
-    × ((f : Fault) (pairs : List (ℕ × ℕ)) (count stop left : ℕ) → Prepared c t free states list hits masks left f → Weighing c t f pairs count stop states list m times extras₀ → to ≤ stop
-    → Entries c t f pairs m times from at table₀ extras table)
+    × ((f : Fault) (pairs : List (ℕ × ℕ)) (count stop left : ℕ) → Prepared c t free states list hits masks left f
+    → Weighing c t f pairs count stop states list m times extras₀ → to ≤ stop → Entries c t f pairs m times from at table₀ extras table)
 
 abbrev μ-loop : tie.MeasureT-loop
 μ-loop c job t free states list from to m pins flops outs hits masks feed₀ words₀ state₀ units₀ bits₀ times extras₀ table₀ at₀ feed words state units bits extras table at = to - at
