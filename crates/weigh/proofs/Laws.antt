@@ -110,9 +110,10 @@ module _ (c t : List ℕ) (f : Fault) (pairs : List (ℕ × ℕ)) (m : ℕ) (tim
       less d n l = elim (decLe (suc d) e) [ yes g ↦ g | no g ↦ absurd (n (omega arith)) ]
 
   -- two stretches, one behind the other
-  pub entries-join : (from middle to : ℕ) (table table′ table″ extras′ extras″ : List ℕ) → from ≤ middle → middle ≤ to → 4 * to ≤ length table → length table′ ≡ length table
-      → Entries c t f pairs m times from middle table extras′ table′ → Entries c t f pairs m times middle to table′ extras″ table″ → Entries c t f pairs m times from to table extras″ table″
-  entries-join from middle to table table′ table″ extras′ extras″ h g room long old new = record {
+  pub entries-join : {from middle to : ℕ} {table table′ table″ extras′ extras″ : List ℕ} → Entries c t f pairs m times from middle table extras′ table′
+      → Entries c t f pairs m times middle to table′ extras″ table″ → from ≤ middle → middle ≤ to → length table′ ≡ length table → 4 * to ≤ length table
+      → Entries c t f pairs m times from to table extras″ table″
+  entries-join {middle = middle} old new h g long room = record {
     weighed = record {
       at = λ d l r. elim (decLe (suc d) middle) [
         | yes q ↦ new .before d q (rw long (omega arith)) ∙ old .weighed .at d l q

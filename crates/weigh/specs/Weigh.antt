@@ -66,17 +66,20 @@ pub record WeighedWord (count : ℕ) (states list after : List ℕ) (marks at ne
   pub entries : (c t : List ℕ) (f : Fault) (pairs : List (ℕ × ℕ)) (stop : ℕ) → Weighing c t f pairs count stop states list m times extras → WordOf c t f list at next marks after
       → F c ≤ at → next ≤ stop → Entries c t f pairs m times at next table extras′ table′
 
--- the entries of the pairs between two positions
-pub record WeighedFrom (c t free states list hits masks : List ℕ) (from to m : ℕ) (times extras table extras′ table′ : List ℕ) : Type 0 where
-  pub entries : (f : Fault) (pairs : List (ℕ × ℕ)) (count stop left : ℕ) → Prepared c t free states list hits masks left f
-      → Weighing c t f pairs count stop states list m times extras → to ≤ stop → Entries c t f pairs m times from to table extras′ table′
-
 -- the entry of (0, i)
 pub record WeighedFirst (count : ℕ) (list : List ℕ) (i m : ℕ) (times extras table extras′ table′ : List ℕ) : Type 0 where
   pub entry : (c t : List ℕ) (f : Fault) (pairs : List (ℕ × ℕ)) (stop : ℕ) (states : List ℕ) → Weighing c t f pairs count stop states list m times extras → i < stop
       → EntryAt c t f pairs m times i table extras′ table′
 
--- the entries of unit 0
-pub record WeighedStart (count : ℕ) (list : List ℕ) (m : ℕ) (times extras table extras′ table′ : List ℕ) : Type 0 where
+-- the entries of unit 0 from position `from`; r is the position behind them
+pub record WeighedStart (count : ℕ) (list : List ℕ) (from m : ℕ) (times extras table extras′ table′ : List ℕ) (r : ℕ) : Type 0 where
+  pub begin : from ≤ r
+  pub unit : count ≤ r
+  pub least : (to : ℕ) → from ≤ to → count ≤ to → r ≤ to
   pub entries : (c t : List ℕ) (f : Fault) (pairs : List (ℕ × ℕ)) (stop : ℕ) (states : List ℕ) → Weighing c t f pairs count stop states list m times extras → F c ≤ stop
-      → Entries c t f pairs m times 0 (F c) table extras′ table′
+      → Entries c t f pairs m times from r table extras′ table′
+
+-- the entries of the pairs between two positions
+pub record WeighedFrom (c t free states list hits masks : List ℕ) (from to m : ℕ) (times extras table extras′ table′ : List ℕ) : Type 0 where
+  pub entries : (f : Fault) (pairs : List (ℕ × ℕ)) (count stop left : ℕ) → Prepared c t free states list hits masks left f
+      → Weighing c t f pairs count stop states list m times extras → to ≤ stop → Entries c t f pairs m times from to table extras′ table′

@@ -138,7 +138,51 @@ fn weigh_word(
     }
 }
 
-// The entries of the pairs from position `from` to `to`, of units above 0, a word of up to 32 pairs after another.
+// The entry of (0, i).
+fn weigh_first(
+    count: usize,
+    list: &Table,
+    i: usize,
+    m: usize,
+    times: &Times,
+    extras: &mut Extras,
+    table: &mut [u8],
+)
+    requires { ⌜ (count ≤ 256) × (i < count) × (m < 12) × (4 * i + 4 ≤ length (now table)) ⌝ }
+    ensures { λ _. ⌜ WeighedFirst count (now (list .entry)) i m (now (times .entry)) (now (extras .entry)) (now (table .entry)) (now (extras .exit)) (now (table .exit)) ⌝ }
+{
+    let at = 4 * i;
+    if list[i] != 2 {
+        record::put_two(&mut table[at..], 0, 0);
+        return;
+    }
+    take::first_extras(count, i, m, extras);
+    enter(count, list, 0, times, m, extras, &mut table[at..]);
+}
+
+// The entries of unit 0, whose pairs need no trial, from position `from`: the position behind them.
+fn weigh_start(
+    count: usize,
+    list: &Table,
+    from: usize,
+    m: usize,
+    times: &Times,
+    extras: &mut Extras,
+    table: &mut [u8],
+) -> usize
+    requires { ⌜ (count ≤ 256) × (m < 12) × (4 * count ≤ length (now table)) ⌝ }
+    ensures { λ r. ⌜ WeighedStart count (now (list .entry)) from m (now (times .entry)) (now (extras .entry)) (now (table .entry))
+        (now (extras .exit)) (now (table .exit)) r ⌝ }
+{
+    let mut i = from;
+    while i < count {
+        weigh_first(count, list, i, m, times, extras, table);
+        i += 1;
+    }
+    i
+}
+
+// The entries of the pairs from position `from` to `to`: those of unit 0, and then a word of up to 32 pairs after another.
 pub fn weigh(
     c: &[u8],
     job: Job,
@@ -163,12 +207,12 @@ pub fn weigh(
     extras: &mut Extras,
     table: &mut [u8],
 )
-    requires { ⌜ (Tabled (now c) (now t) job (now pins) (now flops) (now outs)) × (F (now c) ≤ from) × (from ≤ to) × (to ≤ L (now c) (now t) * F (now c)) × (m < 12)
+    requires { ⌜ (Tabled (now c) (now t) job (now pins) (now flops) (now outs)) × (from ≤ to) × (F (now c) ≤ to) × (to ≤ L (now c) (now t) * F (now c)) × (m < 12)
         × (4 * to ≤ length (now table)) ⌝ }
     ensures { λ _. ⌜ WeighedFrom (now (c .entry)) (now (t .entry)) (now (free .entry)) (now (states .entry)) (now (list .entry)) (now (hits .entry))
         (now (masks .entry)) from to m (now (times .entry)) (now (extras .entry)) (now (table .entry)) (now (extras .exit)) (now (table .exit)) ⌝ }
 {
-    let mut at = from;
+    let mut at = weigh_start(job.flops, list, from, m, times, extras, table);
     while at < to {
         let batch = expand::fill(job.flops, list, at, to, units, bits);
         let marks = trial::try_pairs(
@@ -204,46 +248,5 @@ pub fn weigh(
             table,
         );
         at = batch.next;
-    }
-}
-
-// The entry of (0, i).
-fn weigh_first(
-    count: usize,
-    list: &Table,
-    i: usize,
-    m: usize,
-    times: &Times,
-    extras: &mut Extras,
-    table: &mut [u8],
-)
-    requires { ⌜ (count ≤ 256) × (i < count) × (m < 12) × (4 * i + 4 ≤ length (now table)) ⌝ }
-    ensures { λ _. ⌜ WeighedFirst count (now (list .entry)) i m (now (times .entry)) (now (extras .entry)) (now (table .entry)) (now (extras .exit)) (now (table .exit)) ⌝ }
-{
-    let at = 4 * i;
-    if list[i] != 2 {
-        record::put_two(&mut table[at..], 0, 0);
-        return;
-    }
-    take::first_extras(count, i, m, extras);
-    enter(count, list, 0, times, m, extras, &mut table[at..]);
-}
-
-// The entries of unit 0, whose pairs need no trial.
-pub fn weigh_start(
-    count: usize,
-    list: &Table,
-    m: usize,
-    times: &Times,
-    extras: &mut Extras,
-    table: &mut [u8],
-)
-    requires { ⌜ (count ≤ 256) × (m < 12) × (4 * count ≤ length (now table)) ⌝ }
-    ensures { λ _. ⌜ WeighedStart count (now (list .entry)) m (now (times .entry)) (now (extras .entry)) (now (table .entry)) (now (extras .exit)) (now (table .exit)) ⌝ }
-{
-    let mut i: usize = 0;
-    while i < count {
-        weigh_first(count, list, i, m, times, extras, table);
-        i += 1;
     }
 }

@@ -1,4 +1,4 @@
--- The entries from `from` to `at` are written.
+-- The entries are written up to `at`.
 use mathlib.Core.Path.{_≡_, refl, _∙_}
 use mathlib.Core.List.{List}
 use Prim.Native.Nat.{ℕ, _*_, _-_, _<_, _≤_}
@@ -17,9 +17,9 @@ use Rattle.weigh.proofs.weigh.Tie as tie
 
 abbrev Inv-loop : tie.InvT-loop
 Inv-loop c job t free states list from to m pins flops outs hits masks feed₀ words₀ state₀ units₀ bits₀ times extras₀ table₀ at₀ feed words state units bits extras table at =
-    (from ≤ at) × (at ≤ to) × (length table ≡ length table₀)
+    (at₀ ≤ at) × (at ≤ to) × (length table ≡ length table₀)
     × ((f : Fault) (pairs : List (ℕ × ℕ)) (count stop left : ℕ) → Prepared c t free states list hits masks left f
-    → Weighing c t f pairs count stop states list m times extras₀ → to ≤ stop → Entries c t f pairs m times from at table₀ extras table)
+    → Weighing c t f pairs count stop states list m times extras₀ → to ≤ stop → Entries c t f pairs m times at₀ at table₀ extras table)
 
 abbrev μ-loop : tie.MeasureT-loop
 μ-loop c job t free states list from to m pins flops outs hits masks feed₀ words₀ state₀ units₀ bits₀ times extras₀ table₀ at₀ feed words state units bits extras table at = to - at
@@ -28,8 +28,17 @@ abbrev μ-loop : tie.MeasureT-loop
 abbrev Loop : Type 0
 Loop = tie.At-loop Inv-loop μ-loop
 
+abbrev lent : Loop → tie.After-table Inv-loop μ-loop
+lent l = l .before .before
+
+abbrev begun : Loop → tie.After-weigh-start Inv-loop μ-loop
+begun l = lent l .before
+
+abbrev begin : tie.After-weigh-start Inv-loop μ-loop → tie.Start Inv-loop μ-loop
+begin c = c .before .before .before .before .before .before .before .before .before
+
 abbrev start : Loop → tie.Start Inv-loop μ-loop
-start l = l .before .before .before .before .before .before .before
+start l = begin (begun l)
 
 abbrev turn : tie.After-fill Inv-loop μ-loop → tie.In-loop Inv-loop μ-loop
 turn c = c .before .before .before .before
@@ -46,10 +55,21 @@ shown c = c .before .before .before .before
 abbrev word : tie.After-next-state Inv-loop μ-loop → tie.After-fill Inv-loop μ-loop
 word c = filled (tried c)
 
+weigh-start-requires : tie.Need-weigh-start-requires Inv-loop μ-loop
+weigh-start-requires c κs =
+    let s = c .before .before .before .before .before .before .before .before in
+    let g = s .pre .0 in
+    (omega (arith, g .sizes .flops, g .circuit .flipFlops), s .pre .4, omega (arith, g .sizes .flops, s .pre .2, s .pre .5))
+
 loop-holds : tie.Need-loop-holds Inv-loop μ-loop
 loop-holds c =
-    let s = c .before .before .before .before .before .before in
-    (omega arith, omega (arith, s .pre .2), refl, λ f pairs count stop left ready w last. entries-none _ _ f pairs _ _ _ _ _ (w .taken))
+    let first = c .before .before in
+    let s = begin first in (
+      omega arith,
+      first .weigh-start .ensures .least _ (s .pre .1) (omega (arith, s .pre .2, s .pre .0 .sizes .flops)),
+      refl,
+      λ f pairs count stop left ready w last. entries-none _ _ f pairs _ _ _ _ _ (w .taken),
+    )
 
 -- there is a flip-flop
 width : (c : tie.In-loop Inv-loop μ-loop) → 0 < start (c .before) .args .job .flops
@@ -59,7 +79,7 @@ width c =
     factor-some (s .args .job .flops) (s .args .job .units) (c .before .loop .at) (omega (arith, c .loop-test .taken, s .pre .3, product-as _ _ _ _ (sizes .flops) (sizes .units)))
 
 first : (c : tie.In-loop Inv-loop μ-loop) → start (c .before) .args .job .flops ≤ c .before .loop .at
-first c = let s = start (c .before) in omega (arith, c .before .loop .inv .0, s .pre .1, s .pre .0 .sizes .flops)
+first c = omega (arith, c .before .loop .inv .0, begun (c .before) .weigh-start .ensures .unit)
 
 fill-requires : tie.Need-fill-requires Inv-loop μ-loop
 fill-requires c κs =
@@ -119,7 +139,7 @@ weigh-word-requires c κs =
       omega (arith, within fill, mul-le-mul-right (F (s .args .c .now)) (g .test .most), g .sizes .flops),
       omega (arith, fill .fill .ensures .0 .few, fill .fill .ensures .0 .all),
       s .pre .4,
-      omega (arith, fill .fill .ensures .2, s .pre .5, in-loop .before .loop .inv .2),
+      omega (arith, fill .fill .ensures .2, s .pre .5, in-loop .before .loop .inv .2, lent (in-loop .before) .table .given),
     )
 
 loop-again : tie.Need-loop-again Inv-loop μ-loop
@@ -133,23 +153,29 @@ loop-again c =
     let g = s .pre .0 in (
       omega (arith, loop .inv .0, fill .fill .ensures .1),
       fill .fill .ensures .2,
-      c .before .table .given ∙ loop .inv .2,
+      c .before .table2 .given ∙ loop .inv .2,
       λ f pairs count stop left ready w last.
           let old = loop .inv .3 f pairs count stop left ready w last in
-          entries-join _ _ f pairs _ _ (s .args .from) (loop .at) (fill .fill .result .next) (s .args .table .now) (loop .table) _ _ _ (loop .inv .0) (omega (arith, fill .fill .ensures .1)) (omega (arith, fill .fill .ensures .2, s .pre .5))
-          (loop .inv .2) old
+          entries-join _ _ f pairs _ _ old
           (weighed .weigh-word .ensures .entries _ _ f pairs stop (weighing-again w (g .sizes .flops) (old .taken))
           (word-as _ _ f _ _ _ _ _ _ _ _ _ _ _ _ _ _ (g .sizes .flops) (width in-loop) (first in-loop) (within fill) (fill .fill .ensures .0) (ready .stuck) (ready .plain) (ready .frees)
           (tried show .try-pairs .ensures) (show .next-state .ensures))
-          (omega (arith, first in-loop, g .sizes .flops)) (omega (arith, fill .fill .ensures .2, last))),
+          (omega (arith, first in-loop, g .sizes .flops)) (omega (arith, fill .fill .ensures .2, last)))
+          (loop .inv .0) (omega (arith, fill .fill .ensures .1)) (loop .inv .2) (omega (arith, fill .fill .ensures .2, s .pre .5, lent (in-loop .before) .table .given)),
     )
 
 returns : tie.Need-returns Inv-loop μ-loop
 returns c = record {
   entries = λ f pairs count stop left ready w last.
       let loop = c .before .loop in
-      let end : loop .at ≡ start (c .before) .args .to = omega (arith, loop .inv .1, c .loop-test .left) in
-      rw (← end) (loop .inv .3 f pairs count stop left ready w last);
+      let first = begun (c .before) in
+      let s = begin first in
+      let g = s .pre .0 in
+      let end : loop .at ≡ s .args .to = omega (arith, loop .inv .1, c .loop-test .left) in
+      let old = first .weigh-start .ensures .entries _ _ f pairs stop _ (weighing-again w (g .sizes .flops) (w .taken)) (omega (arith, s .pre .2, last)) in
+      rw (← end)
+      (entries-join _ _ f pairs _ _ old (loop .inv .3 f pairs count stop left ready (weighing-again w (w .width) (old .taken)) last)
+      (first .weigh-start .ensures .begin) (loop .inv .0) (lent (c .before) .table .given) (omega (arith, end, s .pre .5)));
 }
 
 pub weigh-spec : {M : Type 1} → statement M
@@ -158,6 +184,7 @@ weigh-spec =
     (tie.spec
     Inv-loop
     μ-loop
+    weigh-start-requires
     loop-holds
     fill-requires
     try-pairs-requires
@@ -165,5 +192,5 @@ weigh-spec =
     weigh-word-requires
     (λ c. let fill = word (shown (c .before .before)) in omega (arith, fill .fill .ensures .1, fill .fill .ensures .2, turn fill .loop-test .taken))
     loop-again
-    (λ c. c .before .loop .inv .2)
+    (λ c. c .before .loop .inv .2 ∙ lent (c .before) .table .given)
     returns)

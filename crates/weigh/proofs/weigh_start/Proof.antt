@@ -1,4 +1,4 @@
--- The entries of the flip-flops below i are written.
+-- The entries from `from` to i are written.
 use mathlib.Core.Path.{_≡_, refl, _∙_}
 use mathlib.Core.List.{List}
 use Prim.Native.Nat.{ℕ, _-_, _≤_}
@@ -11,13 +11,13 @@ use Rattle.weigh.proofs.weigh_start.Statement.{statement}
 use Rattle.weigh.proofs.weigh_start.Tie as tie
 
 abbrev Inv-loop : tie.InvT-loop
-Inv-loop count list m times extras₀ table₀ i₀ extras table i =
-    (i ≤ count) × (length table ≡ length table₀)
+Inv-loop count list from m times extras₀ table₀ i₀ extras table i =
+    (from ≤ i) × ((to : ℕ) → from ≤ to → count ≤ to → i ≤ to) × (length table ≡ length table₀)
     × ((c t : List ℕ) (f : Fault) (pairs : List (ℕ × ℕ)) (stop : ℕ) (states : List ℕ) → Weighing c t f pairs count stop states list m times extras₀ → F c ≤ stop
-    → Entries c t f pairs m times 0 i table₀ extras table)
+    → Entries c t f pairs m times from i table₀ extras table)
 
 abbrev μ-loop : tie.MeasureT-loop
-μ-loop count list m times extras₀ table₀ i₀ extras table i = count - i
+μ-loop count list from m times extras₀ table₀ i₀ extras table i = count - i
 
 -- places
 abbrev Loop : Type 0
@@ -33,13 +33,13 @@ abbrev turn : tie.After-weigh-first Inv-loop μ-loop → tie.In-loop Inv-loop μ
 turn c = c .before .before .before
 
 loop-holds : tie.Need-loop-holds Inv-loop μ-loop
-loop-holds c = (omega arith, refl, λ cs ts f pairs stop states w last. entries-none cs ts f pairs _ _ _ _ _ (w .taken))
+loop-holds c = (omega arith, λ to h l. h, refl, λ cs ts f pairs stop states w last. entries-none cs ts f pairs _ _ _ _ _ (w .taken))
 
 weigh-first-requires : tie.Need-weigh-first-requires Inv-loop μ-loop
 weigh-first-requires c κs =
     let in-loop = c .before .before in
     let s = start (in-loop .before) in
-    (s .pre .0, in-loop .loop-test .taken, s .pre .1, omega (arith, in-loop .loop-test .taken, s .pre .2, in-loop .before .loop .inv .1))
+    (s .pre .0, in-loop .loop-test .taken, s .pre .1, omega (arith, in-loop .loop-test .taken, s .pre .2, in-loop .before .loop .inv .2))
 
 loop-again : tie.Need-loop-again Inv-loop μ-loop
 loop-again c =
@@ -48,21 +48,19 @@ loop-again c =
     let loop = in-loop .before .loop in
     let s = start (in-loop .before) in
     let below = in-loop .loop-test .taken in (
-      omega (arith, below),
-      c .before .table .given ∙ loop .inv .1,
+      omega (arith, loop .inv .0),
+      λ to h l. omega (arith, below, l),
+      c .before .table .given ∙ loop .inv .2,
       λ cs ts f pairs stop states w last.
-          let old = loop .inv .2 cs ts f pairs stop states w last in
-          entries-turn cs ts f pairs _ _ 0 (loop .i) (s .args .table .now) (loop .table) _ _ _ (omega arith) (omega (arith, below, s .pre .2)) (loop .inv .1) old
+          let old = loop .inv .3 cs ts f pairs stop states w last in
+          entries-turn cs ts f pairs _ _ (s .args .from) (loop .i) (s .args .table .now) (loop .table) _ _ _ (loop .inv .0) (omega (arith, below, s .pre .2)) (loop .inv .2) old
           (step .weigh-first .ensures .entry cs ts f pairs stop states (weighing-again w (w .width) (old .taken)) (omega (arith, below, w .width, last))),
     )
 
 returns : tie.Need-returns Inv-loop μ-loop
-returns c = record {
-  entries = λ cs ts f pairs stop states w last.
-      let loop = c .before .loop in
-      let end : loop .i ≡ F cs = omega (arith, loop .inv .0, c .loop-test .left, w .width) in
-      rw (← end) (loop .inv .2 cs ts f pairs stop states w last);
-}
+returns c =
+    let inv = c .before .loop .inv in
+    record { begin = inv .0; unit = omega (arith, c .loop-test .left); least = inv .1; entries = inv .3 }
 
 pub weigh-start-spec : {M : Type 1} → statement M
 weigh-start-spec =
@@ -75,5 +73,5 @@ weigh-start-spec =
     (λ c. omega (arith, turn (written c) .loop-test .taken))
     (λ c. omega (arith, turn (written c) .loop-test .taken))
     loop-again
-    (λ c. c .before .loop .inv .1)
+    (λ c. c .before .loop .inv .2)
     returns)
