@@ -6,7 +6,7 @@ use mathlib.Core.Option.{none, some}
 use Prim.Native.Nat.{ℕ, suc, _+_, _*_, _-_, _/_, _%_, _<_, _≤_}
 use native.Mathlib.Omega.{arith}
 use native.Mathlib.Decide.{decLe}
-use native.Mathlib.Nat.{mul-le-mul-left, mul-comm}
+use native.Mathlib.Nat.{mul-comm}
 use lib.Dec.{ltb}
 use lib.ListN.{getD, length, take, drop, length-append}
 use borrow.Author.Tests.{ne-eqb, lt-ltb, le-ltb, le-leb, lt-leb}
@@ -30,9 +30,8 @@ use Rattle.take.proofs.Taken.{taken-as}
 use Rattle.take.proofs.Tests.{outputs-as}
 use Rattle.best.specs.Weights.{entryOf, Weighed}
 use Rattle.best.specs.Best as best
-use Rattle.weigh.specs.Weigh.{Weighing, Entries, WeighedFrom, WeighedStart}
-use Rattle.weigh.proofs.Laws.{entries-join}
-use Rattle.pick.specs.Pick.{reachOf, Picking, PickedTo, WeighedAgain, Records}
+use Rattle.weigh.specs.Weigh.{Weighing, WeighedFrom}
+use Rattle.pick.specs.Pick.{reachOf, Picking, PickedTo, Records}
 
 -- ---- how many units may have a pair
 pub reach-some : (units left reach : ℕ) → reach ≡ reachOf units left → 0 < units → 0 < reach
@@ -74,10 +73,10 @@ module _ {c t : List ℕ} {f : Fault} {free states list hits masks merits : List
       by-test (ltb u (L c t)) (λ a. by-test (ltb i (F c)) (λ b. by-test (isSpecified (getD (stateRow c t f u) i X)) (λ d. rw (a, b, d)) (λ d. rw (a, b, d, none-left))) (λ b. rw (a, b))) (λ a. rw a)
 
   -- what weighing asks for
-  pub weighing-of : (test : ValidTest c t) (pairs : List (ℕ × ℕ)) (count m : ℕ) (times extras : List ℕ) → count ≡ F c → Taken c t f pairs m times extras
-      → Weighing c t f pairs count (F c * reach) states list m times extras
-  weighing-of test pairs count m times extras width taken = record {
-    width = width;
+  weighing-of : (test : ValidTest c t) (pairs : List (ℕ × ℕ)) (m : ℕ) (times extras : List ℕ) → Taken c t f pairs m times extras
+      → Weighing c t f pairs (F c) (F c * reach) states list m times extras
+  weighing-of test pairs m times extras taken = record {
+    width = refl;
     test = test;
     fault = p .ready .fault;
     plain = p .ready .plain;
@@ -102,21 +101,27 @@ module _ (c t : List ℕ) (f : Fault) where
   unfolding entryOf takes
   entry-elsewhere pairs u i v j n = rw (touches-elsewhere pairs u i v (extra c t f v j 0) n, touches-elsewhere pairs u i v (extra c t f v j 1) n)
 
-  -- the table after a pick, once the entries of its unit are written again
-  pub weighed-again : (pairs : List (ℕ × ℕ)) (u i reach m : ℕ) (times extras′ table table′ : List ℕ) → 4 * (F c * reach) ≤ length table → Weighed c t f pairs 0 (F c * reach) table
-      → Entries c t f (pairs ++ ((u, i) ∷ [])) m times (F c * u) (F c * u + F c) table extras′ table′ → Weighed c t f (pairs ++ ((u, i) ∷ [])) 0 (F c * reach) table′
-  weighed-again pairs u i reach m times extras′ table table′ room old new = record {
-    at = λ e h l. elim (decLe (F c * u) e) [
-      | no g ↦ new .before e (omega arith) (omega arith) ∙ same e l (λ q. let at : F c * u ≡ F c * (e / F c) = ap (λ x. F c * x) q in (let z : ⊥ = omega (arith, position (F c) e) in z))
-      | yes g ↦ elim (decLe (F c * u + F c) e) [
-        | no k ↦ new .weighed .at e g (omega arith)
-        | yes k ↦ new .behind e k (omega arith) ∙ same e l (λ q. let at : F c * u ≡ F c * (e / F c) = ap (λ x. F c * x) q in (let z : ⊥ = omega (arith, position (F c) e, place-below (F c) e (factor-some (F c) reach e l)) in z))
-      ]
-    ];
+  -- so the entries of other units stay
+  weighed-elsewhere : (pairs : List (ℕ × ℕ)) (u i reach from to : ℕ) (table : List ℕ) → Weighed c t f pairs 0 (F c * reach) table → to ≤ F c * reach
+      → ((e : ℕ) → from ≤ e → e < to → u ≡ e / F c → ⊥) → Weighed c t f (pairs ++ ((u, i) ∷ [])) from to table
+  weighed-elsewhere pairs u i reach from to table old inside other = record {
+    at = λ e h l. old .at e (omega arith) (omega arith) ∙ sym (entry-elsewhere pairs u i (e / F c) (e % F c) (other e h l));
   }
-    where
-      same : (e : ℕ) → e < F c * reach → (u ≡ e / F c → ⊥) → rowOf 4 table e ≡ entryOf c t f (pairs ++ ((u, i) ∷ [])) (e / F c) (e % F c)
-      same e l n = old .at e (omega arith) l ∙ sym (entry-elsewhere pairs u i (e / F c) (e % F c) n)
+
+  -- of the table without the entries of unit u, those before it
+  weighed-before : (pairs : List (ℕ × ℕ)) (u i reach : ℕ) (table : List ℕ) → Weighed c t f pairs 0 (F c * reach) table → u < reach
+      → Weighed c t f (pairs ++ ((u, i) ∷ [])) 0 (F c * u) table
+  weighed-before pairs u i reach table old below =
+      weighed-elsewhere pairs u i reach 0 (F c * u) table old (omega (arith, row-fits (F c) u reach below, mul-comm (F c) reach))
+      (λ e h l q. let at : F c * u ≡ F c * (e / F c) = ap (λ x. F c * x) q in (let z : ⊥ = omega (arith, position (F c) e) in z))
+
+  -- and those behind it
+  weighed-behind : (pairs : List (ℕ × ℕ)) (u i reach : ℕ) (table : List ℕ) → Weighed c t f pairs 0 (F c * reach) table
+      → Weighed c t f (pairs ++ ((u, i) ∷ [])) (F c * u + F c) (F c * reach) table
+  weighed-behind pairs u i reach table old =
+      weighed-elsewhere pairs u i reach (F c * u + F c) (F c * reach) table old (omega arith)
+      (λ e h l q. let at : F c * u ≡ F c * (e / F c) = ap (λ x. F c * x) q in
+      (let z : ⊥ = omega (arith, position (F c) e, place-below (F c) e (factor-some (F c) reach e l)) in z))
 
   -- ---- one pick more
   module _ (m k : ℕ) (u i : ℕ) (next : nextPair c t f (bestPairs c t f m) ≡ some (u, i)) where
@@ -138,17 +143,21 @@ module _ (c t : List ℕ) (f : Fault) where
         let long : length (planBytes (bestPairs c t f m)) ≡ 4 * m = length-plan (bestPairs c t f m) ∙ ap (λ n. 4 * n) count in
         rw (more, plan-more (bestPairs c t f m) u i) (written-behind (planBytes (bestPairs c t f m)) (bytes16 u ++ bytes16 i) old area end (4 * m) done long e)
 
-  -- no pick more
-  pub records-stop : (m k : ℕ) (reach : ℕ) (times extras table old area : List ℕ) → nextPair c t f (bestPairs c t f m) ≡ none → m ≤ k → PickedTo c t f reach m k times extras table old area
-      → Records (bestPairs c t f k) old area m
-  records-stop m k reach times extras table old area e h done =
-      let all : m + (k - m) ≡ k = omega arith in
-      let same : bestPairs c t f k ≡ bestPairs c t f m = ap (bestPairs c t f) (sym all) ∙ bestPairs-stop c t f m (k - m) e in
-      record { count = sym (done .taken .count) ∙ ap length (sym same); area = done .records ∙ ap (λ x. overwritten (planBytes x) old) (sym same) }
+-- no pick more
+pub records-stop : (c t : List ℕ) (f : Fault) {m k reach from to : ℕ} {times extras table old area : List ℕ}
+    → nextPair c t f (bestPairs c t f m) ≡ none → m ≤ k → PickedTo c t f reach from to m times extras table old area → Records (bestPairs c t f k) old area m
+records-stop c t f {m} {k} {old = old} e h done =
+    let all : m + (k - m) ≡ k = omega arith in
+    let same : bestPairs c t f k ≡ bestPairs c t f m = ap (bestPairs c t f) (sym all) ∙ bestPairs-stop c t f m (k - m) e in
+    record { count = sym (done .taken .count) ∙ ap length (sym same); area = done .records ∙ ap (λ x. overwritten (planBytes x) old) (sym same) }
 
 -- all picks are made
-pub records-all : (c t : List ℕ) (f : Fault) {m k reach : ℕ} {times extras table old area : List ℕ} → m ≡ k → PickedTo c t f reach m k times extras table old area → Records (bestPairs c t f k) old area m
-records-all c t f {m} {k} {reach} {times} {extras} {table} {old} {area} e done = record { count = sym (done .taken .count) ∙ ap (λ n. length (bestPairs c t f n)) e; area = done .records ∙ ap (λ n. overwritten (planBytes (bestPairs c t f n)) old) e }
+pub records-all : (c t : List ℕ) (f : Fault) {m k reach from to : ℕ} {times extras table old area : List ℕ} → m ≡ k
+    → PickedTo c t f reach from to m times extras table old area → Records (bestPairs c t f k) old area m
+records-all c t f {old = old} e done = record {
+  count = sym (done .taken .count) ∙ ap (λ n. length (bestPairs c t f n)) e;
+  area = done .records ∙ ap (λ n. overwritten (planBytes (bestPairs c t f n)) old) e;
+}
 
 -- by another name of the width
 pub weighed-as : {c t : List ℕ} {f : Fault} {pairs : List (ℕ × ℕ)} {count : ℕ} {table : List ℕ} (reach : ℕ) → count ≡ F c → Weighed c t f pairs 0 (F c * reach) table → Weighed c t f pairs 0 (count * reach) table
@@ -159,61 +168,52 @@ taken-none : (c t : List ℕ) (f : Fault) (times extras : List ℕ) → Taken c 
 unfolding bestPairs
 taken-none c t f times extras = record { count = refl; time = λ q h. absurd (let z : ⊥ = omega arith in z); rows = record { at = λ r h. absurd (let z : ⊥ = omega arith in z) } }
 
-module _ {c t : List ℕ} {f : Fault} {free states list hits masks merits : List ℕ} {left reach : ℕ} (p : Picking c t f free states list hits masks merits left reach) (test : ValidTest c t) where
-  module _ {count : ℕ} (width : count ≡ F c) (table times extras extras′ table′ table″ : List ℕ) {extras″ : List ℕ} (unit : F c ≤ F c * reach) (room : 4 * (F c * reach) ≤ length table) (long : length table′ ≡ length table)
-      (first : WeighedStart count list 0 times extras table extras′ table′)
-      (rest : WeighedFrom c t free states list hits masks count (count * reach) 0 times extras′ table′ extras″ table″) where
-    entries : Entries c t f (bestPairs c t f 0) 0 times 0 (F c * reach) table extras″ table″
-    entries =
-        let old = first .entries c t f (bestPairs c t f 0) (F c * reach) states (weighing-of p test (bestPairs c t f 0) count 0 times extras width (taken-none c t f times extras)) unit in
-        entries-join c t f (bestPairs c t f 0) 0 times 0 (F c) (F c * reach) table table′ table″ extras′ extras″ (omega arith) unit room long old
-        (rw width at (rest .entries f (bestPairs c t f 0) count (F c * reach) left (p .ready)
-        (weighing-of p test (bestPairs c t f 0) count 0 times extras′ width (old .taken)) (rw width (omega arith))))
+pub picked-none : (c t : List ℕ) (f : Fault) {count reach : ℕ} {times extras table area : List ℕ} → count ≡ F c
+    → PickedTo c t f reach 0 (count * reach) 0 times extras table area area
+unfolding bestPairs planBytes
+picked-none c t f {count = count} {reach = reach} {times = times} {extras = extras} {area = area} width = record {
+  taken = taken-none c t f times extras;
+  before = record { at = λ e h l. absurd (let z : ⊥ = omega arith in z) };
+  behind = record { at = λ e h l. absurd (let same : count * reach ≡ F c * reach = ap (λ n. n * reach) width in let z : ⊥ = omega arith in z) };
+  records = sym (overwritten-none area);
+}
 
-    pub all-weighed : (k : ℕ) (area : List ℕ) → PickedTo c t f reach 0 k times extras″ table″ area area
-    unfolding bestPairs planBytes
-    all-weighed k area = record {
-      taken = taken-none c t f times extras″;
-      weighed = λ _. entries .weighed;
-      records = sym (overwritten-none area);
-    }
-
-  -- ---- after a pick
-  module _ {count u m : ℕ} {times extras extras′ table table′ : List ℕ} (pairs : List (ℕ × ℕ)) (width : count ≡ F c) where
-    pub again-start : u ≡ 0 → u < reach → WeighedStart count list m times extras table extras′ table′ → Taken c t f pairs m times extras
-        → Entries c t f pairs m times (F c * u) (F c * u + F c) table extras′ table′
-    again-start e inside done taken =
-        let up : F c * 1 ≤ F c * reach = mul-le-mul-left (F c) (let z : 1 ≤ reach = omega arith in z) in
-        let from : F c * u ≡ 0 = rw e (let z : F c * 0 ≡ 0 = omega arith in z) in
-        let to : F c * u + F c ≡ F c = omega arith in
-        rw (to, from) (done .entries c t f pairs (F c * reach) states (weighing-of p test pairs count m times extras width taken) (omega arith))
-
-    pub again-unit : u < reach → WeighedFrom c t free states list hits masks (count * u) (count * u + count) m times extras table extras′ table′
-        → Taken c t f pairs m times extras → Entries c t f pairs m times (F c * u) (F c * u + F c) table extras′ table′
-    again-unit inside done taken =
-        rw width at (done .entries f pairs count (F c * reach) left (p .ready) (weighing-of p test pairs count m times extras width taken)
-        (rw width (omega (arith, row-fits (F c) u reach inside, mul-comm (F c) reach))))
+-- the table, once the entries that it is without are written
+module _ {c t : List ℕ} {f : Fault} {free states list hits masks merits : List ℕ} {left reach : ℕ}
+    (p : Picking c t f free states list hits masks merits left reach) (test : ValidTest c t) where
+  pub all-weighed : {from to m : ℕ} {times extras table extras′ table′ old area : List ℕ} → PickedTo c t f reach from to m times extras table old area
+      → WeighedFrom c t free states list hits masks from to m times extras table extras′ table′ → to ≤ F c * reach → 4 * (F c * reach) ≤ length table
+      → PickedTo c t f reach 0 0 m times extras′ table′ old area
+  all-weighed {from} {to} {m} done weighed inside room =
+      let new = weighed .entries f (bestPairs c t f m) (F c * reach) left (p .ready) (weighing-of p test _ _ _ _ (done .taken)) inside in record {
+        taken = new .taken;
+        before = record { at = λ e h l. absurd (let z : ⊥ = omega arith in z) };
+        behind = record {
+          at = λ e h l. elim (decLe from e) [
+            | no g ↦ new .before e (omega arith) (omega arith) ∙ done .before .at e h (omega arith)
+            | yes g ↦ elim (decLe to e) [
+              | no q ↦ new .weighed .at e g (omega arith)
+              | yes q ↦ new .behind e q (omega arith) ∙ done .behind .at e q l
+            ]
+          ];
+        };
+        records = done .records;
+      }
 
 -- ---- one pick more
-module _ {c t : List ℕ} {f : Fault} {free states list hits masks merits : List ℕ} {left reach : ℕ} (p : Picking c t f free states list hits masks merits left reach) where
-  pub picked-next : {m k u i r : ℕ} {times times′ extras extras′ extras″ table table′ old area end : List ℕ}
-      → nextPair c t f (bestPairs c t f m) ≡ some (u, i) → u < reach → m < k → 4 * (F c * reach) ≤ length table
-      → PickedTo c t f reach m k times extras table old area → Taken c t f (takeNext c t f k (bestPairs c t f m) (u, i)) r times′ extras′
-      → end ≡ overwritten (bytes16 u ++ bytes16 i) (take (length area - 4 * m) (drop (4 * m) area))
-      → WeighedAgain c t free states list hits masks u (m + 1) k times′ extras′ table extras″ table′
-      → PickedTo c t f reach (m + 1) k times′ extras″ table′ old (take (4 * m) area ++ (end ++ drop (length area - 4 * m) (drop (4 * m) area)))
-  picked-next {m} {k} {u} {i} {r} {times} {times′} {extras} {extras′} {extras″} {table} {table′} {old} {area} {end} next inside below room done took written again =
-      let more = bestPairs-more c t f m (u, i) next in
-      let taken = taken-next c t f m k u i next times extras times′ extras′ r below (done .taken) took in record {
-        taken = elim (decLe k (m + 1)) [
-          | yes h ↦ again .taken f _ h taken
-          | no h ↦ again .entries (omega arith) f _ merits left reach p inside taken .taken
-        ];
-        weighed = λ h. rw more
-            (weighed-again c t f (bestPairs c t f m) u i reach (m + 1) times′ extras″ table table′ room (done .weighed below)
-            (rw more at (again .entries h f _ merits left reach p inside taken)));
-        records = records-next c t f m k u i next old area end (done .taken .count) (done .records) written;
-      }
+pub picked-next : {c t : List ℕ} {f : Fault} {count reach m k u i r : ℕ} {times extras times′ extras′ table old area end : List ℕ}
+    → count ≡ F c → PickedTo c t f reach 0 0 m times extras table old area → nextPair c t f (bestPairs c t f m) ≡ some (u, i) → u < reach → m < k
+    → Taken c t f (takeNext c t f k (bestPairs c t f m) (u, i)) r times′ extras′
+    → end ≡ overwritten (bytes16 u ++ bytes16 i) (take (length area - 4 * m) (drop (4 * m) area))
+    → PickedTo c t f reach (count * u) (count * u + count) (m + 1) times′ extras′ table old
+    (take (4 * m) area ++ (end ++ drop (length area - 4 * m) (drop (4 * m) area)))
+picked-next {c} {t} {f} {count} {reach} {m} {k} {u} {i} {r} {times} {extras} {times′} {extras′} {table} {old} {area} {end}
+    width done next below more took written = record {
+      taken = taken-next c t f m k u i next times extras times′ extras′ r more (done .taken) took;
+      before = rw (width, bestPairs-more c t f m (u, i) next) (weighed-before c t f (bestPairs c t f m) u i reach table (done .behind) below);
+      behind = rw (width, bestPairs-more c t f m (u, i) next) (weighed-behind c t f (bestPairs c t f m) u i reach table (done .behind));
+      records = records-next c t f m k u i next old area end (done .taken .count) (done .records) written;
+    }
 
 -- ---- what picking asks for, of a fault that stages 1 to 4 leave open
 -- the fault-free responses, copied

@@ -14,7 +14,6 @@ use Rattle.sequences.specs.Ends.{Taken}
 use Rattle.take.specs.Take.{Prepared}
 use Rattle.best.specs.Weights.{Weighed}
 use Rattle.best.specs.Best.{Merits}
-use Rattle.weigh.specs.Weigh.{Entries}
 
 -- So many units may have a pair that is taken: the first, and those behind a unit with Nout above 0.
 unfoldable pub reachOf : ℕ → ℕ → ℕ
@@ -27,23 +26,13 @@ pub record Picking (c t : List ℕ) (f : Fault) (free states list hits masks mer
   pub units : reach ≡ reachOf (L c t) left
   pub worth : Merits c t f reach merits
 
--- m pairs are picked: their units and extras, the table of the pairs that could be taken behind them if there is to be one more, and the records
-pub record PickedTo (c t : List ℕ) (f : Fault) (reach m k : ℕ) (times extras table old area : List ℕ) : Type 0 where
+-- m pairs are picked: their units and extras, the table of the pairs that could be taken behind them, but for the entries from `from` to `to`, and
+-- the records
+pub record PickedTo (c t : List ℕ) (f : Fault) (reach from to m : ℕ) (times extras table old area : List ℕ) : Type 0 where
   pub taken : Taken c t f (bestPairs c t f m) m times extras
-  pub weighed : m < k → Weighed c t f (bestPairs c t f m) 0 (F c * reach) table
+  pub before : Weighed c t f (bestPairs c t f m) 0 from table
+  pub behind : Weighed c t f (bestPairs c t f m) to (F c * reach) table
   pub records : area ≡ overwritten (planBytes (bestPairs c t f m)) old
-
--- the table is weighed for the first pick
-pub record AllWeighed (c t free states list hits masks : List ℕ) (reach : ℕ) (times extras table : List ℕ) : Type 0 where
-  pub first : (f : Fault) (merits : List ℕ) (left : ℕ) → Picking c t f free states list hits masks merits left reach
-      → (k : ℕ) (area : List ℕ) → PickedTo c t f reach 0 k times extras table area area
-
--- after a pick at unit u, the entries of that unit again, if there is to be one more
-pub record WeighedAgain (c t free states list hits masks : List ℕ) (u m k : ℕ) (times extras table extras′ table′ : List ℕ) : Type 0 where
-  pub entries : m < k → (f : Fault) (pairs : List (ℕ × ℕ)) (merits : List ℕ) (left reach : ℕ)
-      → Picking c t f free states list hits masks merits left reach → u < reach → Taken c t f pairs m times extras
-      → Entries c t f pairs m times (F c * u) (F c * u + F c) table extras′ table′
-  pub taken : (f : Fault) (pairs : List (ℕ × ℕ)) → k ≤ m → Taken c t f pairs m times extras → Taken c t f pairs m times extras′
 
 -- so many pairs, as plan records
 pub record Records (pairs : List (ℕ × ℕ)) (old new : List ℕ) (r : ℕ) : Type 0 where
@@ -51,8 +40,8 @@ pub record Records (pairs : List (ℕ × ℕ)) (old new : List ℕ) (r : ℕ) : 
   pub area : new ≡ overwritten (planBytes pairs) old
 
 -- all picks
-pub record AllPicked (c t free states list hits masks merits : List ℕ) (left reach k : ℕ) (times extras table old new : List ℕ) (r : ℕ) : Type 0 where
-  pub records : (f : Fault) → Picking c t f free states list hits masks merits left reach → PickedTo c t f reach 0 k times extras table old old → Records (bestPairs c t f k) old new r
+pub record AllPicked (c t free states list hits masks merits : List ℕ) (left reach k : ℕ) (old new : List ℕ) (r : ℕ) : Type 0 where
+  pub records : (f : Fault) → Picking c t f free states list hits masks merits left reach → Records (bestPairs c t f k) old new r
 
 -- all picks of a fault that stages 1 to 4 leave open
 pub record ChosenFrom (c t free states list hits masks counts : List ℕ) (left k : ℕ) (old new : List ℕ) (r : ℕ) : Type 0 where

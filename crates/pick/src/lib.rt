@@ -1,12 +1,12 @@
-// Picking pairs for Choose, one after another, each the best of those that stage 5 would take next. All pairs are weighed once, and after a pick
-// those of its unit again.
+// Picking pairs for Choose, one after another, each the best of those that stage 5 would take next. Before the first pick all pairs are weighed, and
+// before another those of the unit of the pick before it.
 ghost use mathlib.Core.Path.{_≡_};
-ghost use Prim.Native.Nat.{_+_, _*_, _<_, _≤_};
+ghost use Prim.Native.Nat.{_*_, _<_, _≤_};
 ghost use lib.ListN.{length};
 ghost use Rattle.model.specs.Inputs.{F, O, L};
 ghost use Rattle.best.specs.Best.{AtMost, mostNout, mostMerit};
 ghost use Rattle.stages.specs.Stages.{Tabled};
-ghost use Rattle.pick.specs.Pick.{reachOf, AllWeighed, WeighedAgain, AllPicked, ChosenFrom};
+ghost use Rattle.pick.specs.Pick.{reachOf, AllPicked, ChosenFrom};
 use job::Job;
 use stages::Counts;
 use stages::Extras;
@@ -29,125 +29,7 @@ fn reached(units: usize, left: usize) -> usize
     units
 }
 
-// The entries of all pairs, before the first pick.
-fn weigh_all(
-    c: &[u8],
-    job: Job,
-    t: &[u8],
-    free: &Table,
-    states: &Table,
-    list: &Table,
-    reach: usize,
-    pins: &[u16],
-    flops: &[usize],
-    outs: &[usize],
-    hits: &Hits,
-    masks: &Masks,
-    feed: &mut Feed,
-    words: &mut Words,
-    state: &mut State,
-    units: &mut Trials,
-    bits: &mut Trials,
-    times: &Times,
-    extras: &mut Extras,
-    table: &mut [u8],
-)
-    requires { ⌜ (Tabled (now c) (now t) job (now pins) (now flops) (now outs)) × (0 < reach) × (reach ≤ L (now c) (now t)) × (4 * (F (now c) * reach) ≤ length (now table)) ⌝ }
-    ensures { λ _. ⌜ AllWeighed (now (c .entry)) (now (t .entry)) (now (free .entry)) (now (states .entry)) (now (list .entry)) (now (hits .entry))
-        (now (masks .entry)) reach (now (times .entry)) (now (extras .exit)) (now (table .exit)) ⌝ }
-{
-    weigh::weigh_start(job.flops, list, 0, times, extras, table);
-    weigh::weigh(
-        c,
-        job,
-        t,
-        free,
-        states,
-        list,
-        job.flops,
-        job.flops * reach,
-        0,
-        pins,
-        flops,
-        outs,
-        hits,
-        masks,
-        feed,
-        words,
-        state,
-        units,
-        bits,
-        times,
-        extras,
-        table,
-    );
-}
-
-// The entries of unit u again, where m pairs are picked, the last of them at u; none where they are all.
-fn weigh_again(
-    c: &[u8],
-    job: Job,
-    t: &[u8],
-    free: &Table,
-    states: &Table,
-    list: &Table,
-    u: usize,
-    m: usize,
-    k: usize,
-    pins: &[u16],
-    flops: &[usize],
-    outs: &[usize],
-    hits: &Hits,
-    masks: &Masks,
-    feed: &mut Feed,
-    words: &mut Words,
-    state: &mut State,
-    units: &mut Trials,
-    bits: &mut Trials,
-    times: &Times,
-    extras: &mut Extras,
-    table: &mut [u8],
-)
-    requires { ⌜ (Tabled (now c) (now t) job (now pins) (now flops) (now outs)) × (u < L (now c) (now t)) × (k ≤ 12)
-        × (4 * (F (now c) * u + F (now c)) ≤ length (now table)) ⌝ }
-    ensures { λ _. ⌜ WeighedAgain (now (c .entry)) (now (t .entry)) (now (free .entry)) (now (states .entry)) (now (list .entry)) (now (hits .entry))
-        (now (masks .entry)) u m k (now (times .entry)) (now (extras .entry)) (now (table .entry)) (now (extras .exit)) (now (table .exit)) ⌝ }
-{
-    if m >= k {
-        return;
-    }
-    if u == 0 {
-        weigh::weigh_start(job.flops, list, m, times, extras, table);
-        return;
-    }
-    let from = job.flops * u;
-    weigh::weigh(
-        c,
-        job,
-        t,
-        free,
-        states,
-        list,
-        from,
-        from + job.flops,
-        m,
-        pins,
-        flops,
-        outs,
-        hits,
-        masks,
-        feed,
-        words,
-        state,
-        units,
-        bits,
-        times,
-        extras,
-        table,
-    );
-}
-
-// Up to k picks, each written as a plan record: how many there are.
+// Up to k picks, each written as a plan record: how many there are. The entries from `from` to `to` are those that a pick is to weigh first.
 fn pick_pairs(
     c: &[u8],
     job: Job,
@@ -174,13 +56,39 @@ fn pick_pairs(
     table: &mut [u8],
     result: &mut [u8],
 ) -> usize
-    requires { ⌜ (Tabled (now c) (now t) job (now pins) (now flops) (now outs)) × (reach ≤ L (now c) (now t)) × (k ≤ 12) × (4 * (F (now c) * reach) ≤ length (now table)) × (4 * k ≤ length (now result))
-        × (AtMost mostMerit reach (now merits)) ⌝ }
-    ensures { λ r. ⌜ AllPicked (now (c .entry)) (now (t .entry)) (now (free .entry)) (now (states .entry)) (now (list .entry)) (now (hits .entry)) (now (masks .entry)) (now (merits .entry)) left reach k
-        (now (times .entry)) (now (extras .entry)) (now (table .entry)) (now (result .entry)) (now (result .exit)) r ⌝ }
+    requires { ⌜ (Tabled (now c) (now t) job (now pins) (now flops) (now outs)) × (0 < reach) × (reach ≤ L (now c) (now t)) × (k ≤ 12)
+        × (4 * (F (now c) * reach) ≤ length (now table)) × (4 * k ≤ length (now result)) × (AtMost mostMerit reach (now merits)) ⌝ }
+    ensures { λ r. ⌜ AllPicked (now (c .entry)) (now (t .entry)) (now (free .entry)) (now (states .entry)) (now (list .entry)) (now (hits .entry))
+        (now (masks .entry)) (now (merits .entry)) left reach k (now (result .entry)) (now (result .exit)) r ⌝ }
 {
     let mut m: usize = 0;
+    let mut from: usize = 0;
+    let mut to = job.flops * reach;
     while m < k {
+        weigh::weigh(
+            c,
+            job,
+            t,
+            free,
+            states,
+            list,
+            from,
+            to,
+            m,
+            pins,
+            flops,
+            outs,
+            hits,
+            masks,
+            feed,
+            words,
+            state,
+            units,
+            bits,
+            times,
+            extras,
+            table,
+        );
         let best = best::best_pair(reach, job.flops, merits, table);
         if best.score == 0 {
             return m;
@@ -212,31 +120,9 @@ fn pick_pairs(
         );
         let at = 4 * m;
         record::put_two(&mut result[at..], best.unit, best.bit);
+        from = job.flops * best.unit;
+        to = from + job.flops;
         m += 1;
-        weigh_again(
-            c,
-            job,
-            t,
-            free,
-            states,
-            list,
-            best.unit,
-            m,
-            k,
-            pins,
-            flops,
-            outs,
-            hits,
-            masks,
-            feed,
-            words,
-            state,
-            units,
-            bits,
-            times,
-            extras,
-            table,
-        );
     }
     m
 }
@@ -276,28 +162,6 @@ pub fn choose_pairs(
     rows::copy_row(work, job.units * job.outputs, free);
     let reach = reached(job.units, left);
     best::set_merits(reach, job.flops, states, nout, merits);
-    weigh_all(
-        c,
-        job,
-        t,
-        free,
-        states,
-        list,
-        reach,
-        pins,
-        flops,
-        outs,
-        hits,
-        masks,
-        feed,
-        words,
-        state,
-        units,
-        bits,
-        times,
-        extras,
-        work,
-    );
     pick_pairs(
         c,
         job,

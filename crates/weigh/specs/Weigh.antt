@@ -81,5 +81,5 @@ pub record WeighedStart (count : ℕ) (list : List ℕ) (from m : ℕ) (times ex
 
 -- the entries of the pairs between two positions
 pub record WeighedFrom (c t free states list hits masks : List ℕ) (from to m : ℕ) (times extras table extras′ table′ : List ℕ) : Type 0 where
-  pub entries : (f : Fault) (pairs : List (ℕ × ℕ)) (count stop left : ℕ) → Prepared c t free states list hits masks left f
-      → Weighing c t f pairs count stop states list m times extras → to ≤ stop → Entries c t f pairs m times from to table extras′ table′
+  pub entries : (f : Fault) (pairs : List (ℕ × ℕ)) (stop left : ℕ) → Prepared c t free states list hits masks left f
+      → Weighing c t f pairs (F c) stop states list m times extras → to ≤ stop → Entries c t f pairs m times from to table extras′ table′

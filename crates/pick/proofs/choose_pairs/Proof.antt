@@ -20,11 +20,8 @@ reach c = c .before .before .before .before
 abbrev begin : tie.After-reached → tie.Start
 begin c = start (c .before)
 
-abbrev merited : tie.After-weigh-all → tie.After-set-merits
-merited c = c .before .before .before .before .before .before .before .before .before .before
-
-abbrev weighed : tie.After-pick-pairs → tie.After-work
-weighed c = c .before .before .before .before .before .before .before .before .before .before .before .before .before
+abbrev merited : tie.After-pick-pairs → tie.After-set-merits
+merited c = c .before .before .before .before .before .before .before .before .before .before .before .before
 
 -- so many units may have a pair
 units : (c : tie.After-reached) → let a = begin c .args in c .reached .result ≡ reachOf (L (a .c .now) (a .t .now)) (a .left)
@@ -68,32 +65,25 @@ set-merits-requires c κs =
       at-most _ _ _ _ few-units (s .pre .5),
     )
 
-weigh-all-requires : tie.Need-weigh-all-requires
-weigh-all-requires c κs =
-    let at = reach (c .before .before .before .before .before .before .before .before .before) in
-    let s = begin at in
-    (s .pre .0, reach-some _ _ _ (units at) (s .pre .0 .test .some), few at, entry-room at)
-
 pick-pairs-requires : tie.Need-pick-pairs-requires
 pick-pairs-requires c κs =
-    let work = c .before .before .before .before .before .before .before .before .before .before .before .before in
-    let merits = merited (work .before) in
+    let merits = c .before .before .before .before .before .before .before .before .before .before .before in
     let at = reach merits in
     let s = begin at in
-    (s .pre .0, few at, s .pre .1, omega (arith, entry-room at, work .work .given), s .pre .4, merits .set-merits .ensures .small)
+    (s .pre .0, reach-some _ _ _ (units at) (s .pre .0 .test .some), few at, s .pre .1, entry-room at, s .pre .4, merits .set-merits .ensures .small)
 
 returns : tie.Need-returns
 returns c = record {
   records = λ f ready three nouts.
       let pick = c .before .before .before .before in
-      let work = weighed pick in
-      let merits = merited (work .before) in
+      let merits = merited pick in
       let at = reach merits in
       let copy = at .before in
       let s = start copy in
       let g = s .pre .0 in
-      let p = picking (units at) (g .sizes .flops) (merits .set-merits .ensures) f _ _ _ ready three nouts (copy .copy-row .ensures) (response-size (g .sizes)) (omega (arith, response-size (g .sizes), s .pre .2)) in
-      pick .pick-pairs .ensures .records f p (work .before .weigh-all .ensures .first f _ _ p _ _);
+      pick .pick-pairs .ensures .records f
+      (picking (units at) (g .sizes .flops) (merits .set-merits .ensures) f _ _ _ ready three nouts (copy .copy-row .ensures) (response-size (g .sizes))
+      (omega (arith, response-size (g .sizes), s .pre .2)));
 }
 
 pub choose-pairs-spec : {M : Type 1} → statement M
@@ -104,8 +94,7 @@ choose-pairs-spec =
     copy-row-requires
     (λ c κs. tt)
     set-merits-requires
-    weigh-all-requires
     pick-pairs-requires
-    (λ c. c .before .before .before .work2 .given ∙ weighed (c .before .before .before .before) .work .given)
+    (λ c. c .before .before .before .work .given)
     (λ c. c .before .result .given)
     returns)

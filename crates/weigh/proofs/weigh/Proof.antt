@@ -18,8 +18,8 @@ use Rattle.weigh.proofs.weigh.Tie as tie
 abbrev Inv-loop : tie.InvT-loop
 Inv-loop c job t free states list from to m pins flops outs hits masks feed₀ words₀ state₀ units₀ bits₀ times extras₀ table₀ at₀ feed words state units bits extras table at =
     (at₀ ≤ at) × (at ≤ to) × (length table ≡ length table₀)
-    × ((f : Fault) (pairs : List (ℕ × ℕ)) (count stop left : ℕ) → Prepared c t free states list hits masks left f
-    → Weighing c t f pairs count stop states list m times extras₀ → to ≤ stop → Entries c t f pairs m times at₀ at table₀ extras table)
+    × ((f : Fault) (pairs : List (ℕ × ℕ)) (stop left : ℕ) → Prepared c t free states list hits masks left f
+    → Weighing c t f pairs (F c) stop states list m times extras₀ → to ≤ stop → Entries c t f pairs m times at₀ at table₀ extras table)
 
 abbrev μ-loop : tie.MeasureT-loop
 μ-loop c job t free states list from to m pins flops outs hits masks feed₀ words₀ state₀ units₀ bits₀ times extras₀ table₀ at₀ feed words state units bits extras table at = to - at
@@ -68,7 +68,7 @@ loop-holds c =
       omega arith,
       first .weigh-start .ensures .least _ (s .pre .1) (omega (arith, s .pre .2, s .pre .0 .sizes .flops)),
       refl,
-      λ f pairs count stop left ready w last. entries-none _ _ f pairs _ _ _ _ _ (w .taken),
+      λ f pairs stop left ready w last. entries-none _ _ f pairs _ _ _ _ _ (w .taken),
     )
 
 -- there is a flip-flop
@@ -154,27 +154,27 @@ loop-again c =
       omega (arith, loop .inv .0, fill .fill .ensures .1),
       fill .fill .ensures .2,
       c .before .table2 .given ∙ loop .inv .2,
-      λ f pairs count stop left ready w last.
-          let old = loop .inv .3 f pairs count stop left ready w last in
+      λ f pairs stop left ready w last.
+          let old = loop .inv .3 f pairs stop left ready w last in
           entries-join _ _ f pairs _ _ old
           (weighed .weigh-word .ensures .entries _ _ f pairs stop (weighing-again w (g .sizes .flops) (old .taken))
           (word-as _ _ f _ _ _ _ _ _ _ _ _ _ _ _ _ _ (g .sizes .flops) (width in-loop) (first in-loop) (within fill) (fill .fill .ensures .0) (ready .stuck) (ready .plain) (ready .frees)
           (tried show .try-pairs .ensures) (show .next-state .ensures))
           (omega (arith, first in-loop, g .sizes .flops)) (omega (arith, fill .fill .ensures .2, last)))
-          (loop .inv .0) (omega (arith, fill .fill .ensures .1)) (loop .inv .2) (omega (arith, fill .fill .ensures .2, s .pre .5, lent (in-loop .before) .table .given)),
+          (loop .inv .0) (omega (arith, fill .fill .ensures .1)) (loop .inv .2)
+          (omega (arith, fill .fill .ensures .2, s .pre .5, lent (in-loop .before) .table .given)),
     )
 
 returns : tie.Need-returns Inv-loop μ-loop
 returns c = record {
-  entries = λ f pairs count stop left ready w last.
+  entries = λ f pairs stop left ready w last.
       let loop = c .before .loop in
       let first = begun (c .before) in
       let s = begin first in
-      let g = s .pre .0 in
       let end : loop .at ≡ s .args .to = omega (arith, loop .inv .1, c .loop-test .left) in
-      let old = first .weigh-start .ensures .entries _ _ f pairs stop _ (weighing-again w (g .sizes .flops) (w .taken)) (omega (arith, s .pre .2, last)) in
+      let old = first .weigh-start .ensures .entries _ _ f pairs stop _ (weighing-again w (s .pre .0 .sizes .flops) (w .taken)) (omega (arith, s .pre .2, last)) in
       rw (← end)
-      (entries-join _ _ f pairs _ _ old (loop .inv .3 f pairs count stop left ready (weighing-again w (w .width) (old .taken)) last)
+      (entries-join _ _ f pairs _ _ old (loop .inv .3 f pairs stop left ready (weighing-again w (w .width) (old .taken)) last)
       (first .weigh-start .ensures .begin) (loop .inv .0) (lent (c .before) .table .given) (omega (arith, end, s .pre .5)));
 }
 
