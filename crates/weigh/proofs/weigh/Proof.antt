@@ -59,7 +59,7 @@ weigh-start-requires : tie.Need-weigh-start-requires Inv-loop μ-loop
 weigh-start-requires c κs =
     let s = c .before .before .before .before .before .before .before .before in
     let g = s .pre .0 in
-    (omega (arith, g .sizes .flops, g .circuit .flipFlops), s .pre .4, omega (arith, g .sizes .flops, s .pre .2, s .pre .5))
+    (omega (arith, g .sizes .flops, g .circuit .flipFlops), omega (arith, s .pre .4), omega (arith, g .sizes .flops, s .pre .2, s .pre .5))
 
 loop-holds : tie.Need-loop-holds Inv-loop μ-loop
 loop-holds c =
