@@ -22,6 +22,16 @@ pub fn job(k: usize, random: &mut Random) -> LentJob {
     LentJob { plan: some_plan(&job, random), ..job }
 }
 
+/// A job with a long list of faults and a long test.
+pub fn job_of_many_faults(k: usize, random: &mut Random) -> LentJob {
+    let shape = if random.percent(50) { small(random) } else { middle(random) };
+    let job = LentJob { k, ..shaped(shape, random.between(24, 100), random) };
+    let every = every_fault(&job.circuit);
+    let faults: Vec<Place> = (0..random.between(60, 400)).map(|_| random.pick(&every)).collect();
+    let job = with_faults(&job, &faults);
+    LentJob { plan: some_plan(&job, random), ..job }
+}
+
 /// A job of one fault, for which Choose mostly has pairs to write; in many of them one bit tells others.
 pub fn job_of_one_fault(k: usize, random: &mut Random) -> LentJob {
     let any = |random: &mut Random| match random.percent(40) {

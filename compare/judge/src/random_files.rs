@@ -10,9 +10,10 @@ use crate::random::Random;
 /// Circuit, test, faults and plan; a missing file is none.
 pub type Files = [Option<Vec<u8>>; 4];
 
-/// The files of a job that no row refuses, unless it is too large for the areas.
+/// The files of a job that no row refuses, unless it is too large for the areas. One in a hundred has a long list.
 pub fn whole(random: &mut Random) -> Files {
-    files_of(mixture::job(K, random))
+    let make = if random.percent(1) { mixture::job_of_many_faults } else { mixture::job };
+    files_of(make(K, random))
 }
 
 fn files_of(job: LentJob) -> Files {

@@ -51,6 +51,7 @@ pub fn jobs() -> Vec<LentJob> {
         jobs.push(LentJob { result_len: job.result_len + random.below(30), ..job });
     }
     jobs.push(words_of_one_verdict(&mut random));
+    jobs.extend([(31, 70), (32, 130), (33, 65), (60, 200)].map(|(units, count)| long_test(units, count, &mut random)));
     jobs
 }
 
@@ -89,4 +90,17 @@ fn words_of_one_verdict(random: &mut Random) -> LentJob {
         faults.extend((0..64).map(|_| random.pick(&with_verdict)));
     }
     with_more_faults(&job, &faults, 72, random)
+}
+
+/// So many faults over so many time units: some of them show themselves in the first units, some later, some not.
+fn long_test(time_units: usize, count: usize, random: &mut Random) -> LentJob {
+    loop {
+        let shape = Shape { flip_flops: random.between(5, 8), gates: random.between(15, 30), watches: 5, ..Shape::SMALL };
+        let job = faults_of_all_verdicts(&job(shape, time_units, 1, 6, random.next()), count, random);
+        let records = job.records().expect("the job is accepted");
+        let shown = |times: std::ops::Range<u16>| records.iter().any(|record| record[0] == 1 && times.contains(&record[2]));
+        if shown(0..8) && shown(8..1024) && records.iter().any(|record| record[0] > 5) {
+            return job;
+        }
+    }
 }
