@@ -95,10 +95,12 @@ fn words_of_one_verdict(random: &mut Random) -> LentJob {
 /// So many faults over so many time units: some of them show themselves in the first units, some later, some not.
 fn long_test(time_units: usize, count: usize, random: &mut Random) -> LentJob {
     loop {
-        let shape = Shape { flip_flops: random.between(5, 8), gates: random.between(15, 30), watches: 5, ..Shape::SMALL };
+        let shape =
+            Shape { flip_flops: random.between(5, 8), gates: random.between(15, 30), watches: 5, ..Shape::SMALL };
         let job = faults_of_all_verdicts(&job(shape, time_units, 1, 6, random.next()), count, random);
         let records = job.records().expect("the job is accepted");
-        let shown = |times: std::ops::Range<u16>| records.iter().any(|record| record[0] == 1 && times.contains(&record[2]));
+        let shown =
+            |times: std::ops::Range<u16>| records.iter().any(|record| record[0] == 1 && times.contains(&record[2]));
         if shown(0..8) && shown(8..1024) && records.iter().any(|record| record[0] > 5) {
             return job;
         }
