@@ -1,16 +1,16 @@
 -- The verdict of stages 5 and 6.
-use mathlib.Core.Path.{_≡_, refl, sym, ap, _∙_}
+use mathlib.Core.Path.{_≡_, _∙_}
 use mathlib.Core.Bool.{not}
 use mathlib.Core.List.{List}
-use mathlib.Core.Option.{Option, none, some, orElse, Option·getD}
+use mathlib.Core.Option.{none, orElse, Option·getD}
 use Prim.Native.Nat.{ℕ, _<_, _≤_}
 use borrow.Author.Tests.{eq-eqb, ne-eqb, le-leb, lt-leb}
-use Rattle.lists.specs.Scan.{_else_, first}
+use Rattle.lists.specs.Scan.{first}
 use Rattle.lists.proofs.Scan.{given-first, given-none}
 use Rattle.model.specs.Inputs.{F, Fault}
 use Rattle.model.specs.Starts.{freeBits, startCount, differs}
 use Rattle.model.specs.Sequences.{taken, countEnding, endsSurviving}
-use Rattle.model.specs.Grade.{Verdict, counted, beforeStage5, stage5, stage6, fromStart, grade}
+use Rattle.model.specs.Grade.{counted, beforeStage5, stage5, stage6, fromStart, grade}
 
 module _ (c t : List ℕ) (f : Fault) (p : List ℕ) (k : ℕ) (before : beforeStage5 c t f ≡ none) where
   -- none survives

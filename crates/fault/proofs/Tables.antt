@@ -1,14 +1,13 @@
 -- The tables of a fault's plain run.
-use mathlib.Core.Path.{_≡_, refl, sym, ap, _∙_}
+use mathlib.Core.Path.{_≡_, sym, ap, _∙_}
 use mathlib.Core.List.{List, _++_, append-nil}
-use Prim.Native.Nat.{ℕ, _+_, _*_, _-_, _<_, _≤_}
+use Prim.Native.Nat.{ℕ, _+_, _*_, _-_, _≤_}
 use native.Mathlib.Omega.{arith}
-use native.Mathlib.Nat.{mul-comm}
 use lib.ListN.{length, take, drop, length-drop, drop-of-length-le}
 use lib.Seq.{take-append-le, drop-append-le, take-take, drop-at, length-take-le, take-add, take-all}
 use Rattle.lists.specs.Scan.{gather}
 use Rattle.lists.specs.Field.{overwritten, rowOf, Rows}
-use Rattle.lists.proofs.Field.{lent, row-fits, rows-written}
+use Rattle.lists.proofs.Field.{row-fits, rows-written}
 use Rattle.model.specs.Inputs.{F, O, L, Fault}
 use Rattle.model.specs.Simulation.{powerUp, stateAt, outputsAt, plainState, plainOutputs}
 use Rattle.run.proofs.Laws.{length-outputs, length-state, length-powerUp}

@@ -1,7 +1,7 @@
 -- What a step of the passes asks for, and what it gives in each lane.
 use Prim.Native.Nat.{ℕ, _<_, _≤_}
 use mathlib.Core.Path.{_≡_}
-use mathlib.Core.Bool.{false, true}
+use mathlib.Core.Bool.{false}
 use mathlib.Core.List.{List}
 use lib.ListN.{length}
 use Rattle.model.specs.Inputs.{N, kind, pinCount, Fault}

@@ -1,8 +1,8 @@
 -- A lane that follows values which an implication gives: it holds them until a conflict is met, and then some place holds a conflict.
-use mathlib.Core.Path.{_≡_, refl, sym, ap, _∙_}
-use mathlib.Core.Bool.{Bool, true, false, _||_, true≢false, or-true}
+use mathlib.Core.Path.{_≡_, refl, sym, _∙_}
+use mathlib.Core.Bool.{true, false, true≢false, or-true}
 use mathlib.Core.List.{List, [], _∷_}
-use Prim.Native.Nat.{ℕ, zero, suc, _+_, _<_, _≤_}
+use Prim.Native.Nat.{ℕ, zero, suc, _+_, _<_}
 use native.Mathlib.Omega.{arith}
 use lib.Dec.{leb}
 use borrow.Author.Tests.{leb-false, le-leb}
@@ -12,7 +12,7 @@ use Rattle.lists.proofs.Tests.{by-test, by-eq, or-left-false, or-right-false}
 use Rattle.model.specs.Values.{X, opposes, give, hasConflict}
 use Rattle.model.specs.Implication.{giveLine}
 use Rattle.lanes.specs.declared.Lanes.{Lanes}
-use Rattle.lanes.specs.Lane.{bit, is0, is1, Shows, Holds, Conflict, lanesAt, stored, Room, Lane, Follows, Given}
+use Rattle.lanes.specs.Lane.{is0, is1, Holds, Conflict, lanesAt, stored, Room, Lane, Follows, Given}
 use Rattle.lanes.proofs.Laws.{holds-as, stored-same, stored-other, lane-at}
 
 -- ---- conflicts in a row of values

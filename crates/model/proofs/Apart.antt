@@ -14,7 +14,7 @@ use Rattle.lists.proofs.Scan.{firstPair-none}
 use Rattle.model.specs.Inputs.{F, L, Fault}
 use Rattle.model.specs.Accepted.{ThreeValued, ValidTest, ValidFault}
 use Rattle.model.specs.Values.{X, isSpecified, opposes, someOppose, give, giveRow, hasConflict}
-use Rattle.model.specs.Simulation.{nextState, powerUp, plainState}
+use Rattle.model.specs.Simulation.{powerUp, plainState}
 use Rattle.model.specs.Implication.{nothing, whereX, impliedAt, marked, extra}
 use Rattle.model.specs.Expansion.{rowAfter, opposedWrite, stateRow}
 use Rattle.model.specs.Sequences.{overlaps, touches, taken, sequenceRow}

@@ -4,7 +4,6 @@
 ghost use Prim.Native.Nat.{_*_, _<_, _≤_};
 ghost use lib.ListN.{length};
 ghost use Rattle.model.specs.Inputs.{O, L};
-ghost use Rattle.lanes.specs.Lane.{bit};
 ghost use Rattle.run.specs.Run.{Runnable};
 ghost use Rattle.plain.specs.Places.{NotedIf, Noted, Places};
 use job::Job;

@@ -4,8 +4,8 @@ use Prim.Native.Nat.{ℕ, zero, suc, _+_, _-_, _*_, _<_, _≤_}
 use mathlib.Core.Bool.{Bool, true, false, _&&_, _||_, and-comm, or-false, or-assoc, true≢false}
 use mathlib.Core.List.{List, [], _∷_, _++_}
 use lib.Bits.{bitAnd, bitOr}
-use lib.ListN.{getD, length, take, drop, length-append, length-drop, length-map, getD-replicate, length-replicate, List·getD-map}
-use lib.Seq.{getD-take, take-length, take-all, take-suc, length-take-le}
+use lib.ListN.{getD, length, take, drop, length-drop, length-map, getD-replicate, length-replicate, List·getD-map}
+use lib.Seq.{getD-take, take-length, take-suc, length-take-le}
 use native.Mathlib.Numerals.{add-one}
 use native.Mathlib.Omega.{arith}
 use native.Mathlib.Nat.{mul-le-mul}

@@ -1,12 +1,12 @@
 -- The fault of Simulate's list, and the bytes that it writes.
 use mathlib.Core.Path.{_≡_, refl}
-use Prim.Native.Nat.{ℕ, _*_, _/_, _<_, _≤_}
+use Prim.Native.Nat.{ℕ, _/_, _<_, _≤_}
 use mathlib.Core.List.{List}
 use lib.ListN.{length}
 use native.Mathlib.Omega.{arith}
 use borrow.Author.Tests.{eq-eqb, ne-eqb}
 use Rattle.lists.specs.Scan.{gather}
-use Rattle.model.specs.Inputs.{O, L, faultAt, faultCount}
+use Rattle.model.specs.Inputs.{L, faultAt, faultCount}
 use Rattle.model.specs.Simulation.{noFault, powerUp, outputsAt, plainOutputs}
 use Rattle.model.specs.Simulate.{onlyFault, simulateBytes}
 

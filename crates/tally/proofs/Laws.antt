@@ -2,15 +2,12 @@
 use mathlib.Core.Path.{_≡_, sym, ap, _∙_}
 use mathlib.Core.Bool.{Bool, _&&_}
 use mathlib.Core.Option.{none, some, Option·getD}
-use Prim.Native.Nat.{ℕ, _+_, _*_, _<_, _≤_}
+use Prim.Native.Nat.{ℕ, _+_, _<_, _≤_}
 use native.Mathlib.Omega.{arith}
 use lib.Dec.{ltb}
 use Rattle.lists.specs.Scan.{first, countBelow}
 use Rattle.lists.proofs.Scan.{first-some, first-part, first-none-more, first-some-more, given-first, given-none, countBelow-part, countBelow-add}
 use Rattle.lanes.specs.Lane.{bit}
-
-pub count-block : (P : ℕ → Bool) (n : ℕ) → countBelow P (64 * n + 64) ≡ countBelow P (64 * n) + countBelow (λ t. P (64 * n + t)) 64
-count-block P n = countBelow-add P (64 * n) 64
 
 -- a word with those that pass of the numbers base, .. , base + d - 1: all lanes stand for one where d is 64
 module _ (P : ℕ → Bool) (base d word : ℕ) (fits : d ≤ 64) (has : (t : ℕ) → t < 64 → bit t word ≡ (ltb t d && P (base + t))) where

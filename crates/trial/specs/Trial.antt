@@ -1,9 +1,9 @@
 -- A word of trials: lanes 2 p and 2 p + 1 are pair p's, which implication tries with 0 and with 1. Pair p is (v + 1, i), with v its unit of `units`,
 -- where implication works, and i its flip-flop of `bits`.
 use mathlib.Core.Path.{_≡_}
-use mathlib.Core.Bool.{Bool, true, false, cond, _||_}
+use mathlib.Core.Bool.{false, cond}
 use mathlib.Core.List.{List}
-use Prim.Native.Nat.{ℕ, suc, _+_, _*_, _/_, _%_, _<_, _≤_}
+use Prim.Native.Nat.{ℕ, suc, _/_, _%_, _<_, _≤_}
 use lib.Dec.{ltb}
 use lib.ListN.{getD, length}
 use Rattle.lists.specs.Field.{rowOf}

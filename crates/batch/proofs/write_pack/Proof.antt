@@ -1,19 +1,17 @@
 -- The records of the faults below j stand, what is behind them is as it was, and `lane` counts the marks that were there from `from` on.
 use mathlib.Core.Path.{_≡_, refl, sym, _∙_}
 use mathlib.Core.List.{List}
-use Prim.Native.Nat.{ℕ, _+_, _*_, _-_, _<_, _≤_}
+use Prim.Native.Nat.{ℕ, _+_, _-_, _<_, _≤_}
 use native.Mathlib.Omega.{arith}
 use lib.ListN.{length}
 use Rattle.model.specs.Inputs.{faultCount, faultAt}
 use Rattle.model.specs.Grade.{grade}
 use Rattle.faults.specs.Given.{Blank}
 use Rattle.record.specs.Record.{RecordsOf}
-use Rattle.record.proofs.Laws.{records-as}
 use Rattle.stages.specs.Stages.{Standing}
 use Rattle.sieve.specs.Sieve.{marksBelow}
 use Rattle.batch.specs.Batch.{SameFrom}
 use Rattle.batch.proofs.Laws.{kept-from, kept-more, mark-as, sieved-as, sieved-part, marks-turn}
-use borrow.Author.Needs.{needs}
 use Rattle.batch.proofs.write_pack.Statement.{statement}
 use Rattle.batch.proofs.write_pack.Tie as tie
 

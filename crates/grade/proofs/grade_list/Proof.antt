@@ -12,7 +12,6 @@ use Rattle.stages.specs.Stages.{Standing}
 use Rattle.sieve.specs.Sieve.{Sieved}
 use Rattle.batch.proofs.Laws.{sieved-as}
 use Rattle.grade.proofs.Laws.{records-all, count-as, count-is}
-use borrow.Author.Needs.{needs}
 use Rattle.grade.proofs.grade_list.Statement.{statement}
 use Rattle.grade.proofs.grade_list.Tie as tie
 

@@ -5,7 +5,6 @@ use native.Mathlib.Omega.{arith}
 use native.Mathlib.Decide.{decLe}
 use lib.ListN.{getD}
 use Rattle.pending.proofs.Laws.{nout-later}
-use borrow.Author.Needs.{needs}
 use Rattle.pending.proofs.open_units.Statement.{statement}
 use Rattle.pending.proofs.open_units.Tie as tie
 

@@ -3,7 +3,6 @@ use mathlib.Core.Bool.{Bool, cond, _||_, or-assoc}
 use mathlib.Core.List.{List}
 use Prim.Native.Nat.{ℕ}
 use lib.Dec.{leb, ltb, leb·zero}
-use Rattle.lists.specs.Scan.{anyBelow}
 use Rattle.model.specs.Inputs.{N, kind, pinCount, outputMark, spareByte, isGate}
 use Rattle.model.specs.Refusals.{strayBytes, unusedNamed, misnames, misnamed}
 use Rattle.rules.specs.Check.{namesFrom}

@@ -3,7 +3,6 @@ use mathlib.Core.Path.{_≡_, refl, sym, _∙_}
 use mathlib.Core.Bool.{true, false}
 use lib.Dec.{ltb}
 use borrow.Author.Tests.{lt-ltb, le-ltb, not-false}
-use Rattle.lists.specs.Scan.{_else_}
 use Rattle.model.specs.Inputs.{kind, pinCount}
 use Rattle.model.specs.Refusals.{refuse, pinsFit, rows2to5}
 use Rattle.model.proofs.Accepted.{few-pins}

@@ -4,7 +4,6 @@ use Prim.Native.Nat.{ℕ, _+_, _-_, _<_, _≤_}
 use lib.ListN.{length}
 use native.Mathlib.Omega.{arith}
 use Rattle.lanes.specs.Lane.{Room}
-use Rattle.lanes.proofs.Laws.{length-stored}
 use Rattle.run.proofs.Laws.{Loaded, loaded-none, loaded-more, loaded-all}
 use Rattle.run.proofs.load_row.Statement.{statement}
 use Rattle.run.proofs.load_row.Tie as tie

@@ -2,7 +2,7 @@
 use mathlib.Core.Path.{_≡_, refl}
 use mathlib.Core.List.{List}
 use Prim.Native.Nat.{ℕ, _-_, _≤_}
-use lib.ListN.{getD, length, take, length-set}
+use lib.ListN.{length, take, length-set}
 use native.Mathlib.Omega.{arith}
 use Rattle.lists.specs.Field.{overwritten}
 use Rattle.lists.proofs.Field.{row-more}

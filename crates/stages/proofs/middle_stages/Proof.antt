@@ -10,7 +10,7 @@ use Rattle.job.proofs.Laws.{response-size}
 use Rattle.unit.specs.Unit.{Stuck}
 use Rattle.pending.specs.Pending.{OpenUnits}
 use Rattle.expand.proofs.Begin.{product-as}
-use Rattle.stages.proofs.Laws.{deciding-as, before-5, stage2-none, before-2, before-none, prepared, runs, table-room, standing-again}
+use Rattle.stages.proofs.Laws.{deciding-as, before-5, stage2-none, before-2, before-none, prepared, runs, standing-again}
 use borrow.Author.Needs.{needs}
 use Rattle.stages.proofs.middle_stages.Statement.{statement}
 use Rattle.stages.proofs.middle_stages.Tie as tie

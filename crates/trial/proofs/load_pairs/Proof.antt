@@ -1,11 +1,10 @@
 -- The lanes of the pairs below p have the inputs and the state of their units.
 use mathlib.Core.Path.{_≡_, refl, _∙_}
-use Prim.Native.Nat.{_+_, _*_, _-_, _≤_}
+use Prim.Native.Nat.{_-_, _≤_}
 use native.Mathlib.Omega.{arith}
-use lib.ListN.{length, getD}
+use lib.ListN.{length}
 use Rattle.trial.specs.Trial.{StandsAt, Carried}
 use Rattle.trial.proofs.Laws.{carried-none, stands-as, unit-fits}
-use borrow.Author.Needs.{needs}
 use Rattle.trial.proofs.load_pairs.Statement.{statement}
 use Rattle.trial.proofs.load_pairs.Tie as tie
 

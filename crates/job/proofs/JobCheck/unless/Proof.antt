@@ -1,6 +1,5 @@
 use mathlib.Core.Option.{orElse}
 use mathlib.Core.Path.{_≡_, _∙_}
-use Rattle.lists.specs.Scan.{_else_}
 use Rattle.rules.specs.Check.{refusalOf}
 use Rattle.rules.specs.declared.Check.the-variants.{Passed}
 use Rattle.job.specs.Job.{jobRefusalOf}

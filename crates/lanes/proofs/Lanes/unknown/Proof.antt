@@ -1,4 +1,3 @@
-use native.Mathlib.Omega.{arith}
 use Rattle.lanes.proofs.Laws.{unknown-X, unknown-specified}
 use Rattle.lanes.proofs.Lanes.unknown.Statement.{statement}
 use Rattle.lanes.proofs.Lanes.unknown.Tie as tie

@@ -1,7 +1,6 @@
 use mathlib.Core.Option.{orElse}
 use mathlib.Core.Path.{_≡_}
 use Rattle.rules.specs.declared.Check.the-variants.{Passed}
-use Rattle.lists.specs.Scan.{_else_}
 use Rattle.rules.specs.Check.{refusalOf}
 use borrow.Author.Needs.{needs}
 use Rattle.rules.proofs.Check.or.Statement.{statement}
