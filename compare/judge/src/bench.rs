@@ -12,12 +12,13 @@ use std::{fs, io, path::Path, time::Instant};
 type Maker = fn() -> LentJob;
 
 /// The jobs, by name.
-pub const JOBS: [(&str, Maker); 7] = [
+pub const JOBS: [(&str, Maker); 8] = [
     ("stage3_small", || many_trials(250, 30, 60, 40, 1)),
     ("stage3_middle", || many_trials(500, 50, 120, 30, 1)),
     ("stage3_large", || many_trials(1000, 80, 200, 20, 2)),
     ("stage1", || first_stage(200, 2000, 500)),
     ("tiny", tiny),
+    ("small", || many_trials(40, 4, 6, 10, 1)),
     ("stage5", || many_sequences(24, 12, usize::MAX)),
     ("stage6", || many_starts(12, 500, usize::MAX)),
 ];

@@ -10,7 +10,7 @@ use crate::search::with_faults;
 use std::io;
 
 /// Those of the jobs of Grade of which one fault each is measured.
-const JOBS: [&str; 3] = ["stage3_middle", "stage5", "tiny"];
+const JOBS: [&str; 4] = ["stage3_middle", "stage5", "small", "tiny"];
 
 #[rustfmt::skip]
 extern "C" {

@@ -6,18 +6,27 @@ use Prim.Native.Nat.{ℕ, _+_, _*_, _<_, _≤_}
 use lib.Dec.{ltb}
 use lib.ListN.{getD, length}
 use Rattle.lists.specs.Field.{overwritten}
-use Rattle.model.specs.Inputs.{F, L, Fault}
+use Rattle.model.specs.Inputs.{F, O, L, Fault}
 use Rattle.model.specs.Accepted.{ThreeValued}
 use Rattle.model.specs.Expansion.{nout, stateRow}
 use Rattle.model.specs.Choose.{bestPairs, planBytes}
 use Rattle.sequences.specs.Ends.{Taken}
 use Rattle.take.specs.Take.{Prepared}
+use Rattle.stages.specs.Stages.{RowRoom}
 use Rattle.best.specs.Weights.{Weighed}
 use Rattle.best.specs.Best.{Merits}
 
 -- So many units may have a pair that is taken: the first, and those behind a unit with Nout above 0.
 unfoldable pub reachOf : ℕ → ℕ → ℕ
 reachOf units left = cond (ltb left units) (left + 1) units
+
+-- What picking is lent has room: the fault-free responses, plain states and state list, a merit of each unit, and the extras of 12 pairs.
+pub record PickRoom (c t free states list merits extras : List ℕ) : Type 0 where
+  pub responses : L c t * O c ≤ length free
+  pub plain : RowRoom c t states
+  pub rows : RowRoom c t list
+  pub units : L c t ≤ length merits
+  pub pairs : 24 * F c ≤ length extras
 
 -- What picking asks for, of the fault that all lanes have: what stage 5 does, a state list of 0, 1 and X, and the merits of the units.
 pub record Picking (c t : List ℕ) (f : Fault) (free states list hits masks merits : List ℕ) (left reach : ℕ) : Type 0 where

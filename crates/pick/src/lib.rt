@@ -5,19 +5,11 @@ ghost use Prim.Native.Nat.{_*_, _<_, _≤_};
 ghost use lib.ListN.{length};
 ghost use Rattle.model.specs.Inputs.{F, O, L};
 ghost use Rattle.best.specs.Best.{AtMost, mostNout, mostMerit};
-ghost use Rattle.stages.specs.Stages.{Tabled};
-ghost use Rattle.pick.specs.Pick.{reachOf, AllPicked, ChosenFrom};
+ghost use Rattle.run.specs.Run.{Runnable};
+ghost use Rattle.pick.specs.Pick.{reachOf, PickRoom, AllPicked, ChosenFrom};
 use job::Job;
-use stages::Counts;
-use stages::Extras;
-use stages::Feed;
-use stages::Hits;
-use stages::Masks;
-use stages::State;
-use stages::Table;
 use stages::Times;
 use stages::Trials;
-use stages::Words;
 
 // How many units may have a pair that is taken: the first, and those behind a unit with Nout above 0.
 fn reached(units: usize, left: usize) -> usize
@@ -34,30 +26,31 @@ fn pick_pairs(
     c: &[u8],
     job: Job,
     t: &[u8],
-    free: &Table,
-    states: &Table,
-    list: &Table,
+    free: &[u8],
+    states: &[u8],
+    list: &[u8],
     left: usize,
     reach: usize,
     k: usize,
-    merits: &Counts,
+    merits: &[usize],
     pins: &[u16],
     flops: &[usize],
     outs: &[usize],
-    hits: &Hits,
-    masks: &Masks,
-    feed: &mut Feed,
-    words: &mut Words,
-    state: &mut State,
+    hits: &[u8],
+    masks: &[u64],
+    feed: &mut [u64],
+    words: &mut [u64],
+    state: &mut [u64],
     units: &mut Trials,
     bits: &mut Trials,
     times: &mut Times,
-    extras: &mut Extras,
+    extras: &mut [u8],
     table: &mut [u8],
     result: &mut [u8],
 ) -> usize
-    requires { ⌜ (Tabled (now c) (now t) job (now pins) (now flops) (now outs)) × (0 < reach) × (reach ≤ L (now c) (now t)) × (k ≤ 12)
-        × (4 * (F (now c) * reach) ≤ length (now table)) × (4 * k ≤ length (now result)) × (AtMost mostMerit reach (now merits)) ⌝ }
+    requires { ⌜ (Runnable (now c) (now t) job (now pins) (now flops) (now outs) (now hits) (now masks) (now feed) (now words) (now state)) × (0 < reach) × (reach ≤ L (now c) (now t)) × (k ≤ 12)
+        × (4 * (F (now c) * reach) ≤ length (now table)) × (4 * k ≤ length (now result)) × (AtMost mostMerit reach (now merits))
+        × (PickRoom (now c) (now t) (now free) (now states) (now list) (now merits) (now extras)) ⌝ }
     ensures { λ r. ⌜ AllPicked (now (c .entry)) (now (t .entry)) (now (free .entry)) (now (states .entry)) (now (list .entry)) (now (hits .entry))
         (now (masks .entry)) (now (merits .entry)) left reach k (now (result .entry)) (now (result .exit)) r ⌝ }
 {
@@ -132,30 +125,31 @@ pub fn choose_pairs(
     c: &[u8],
     job: Job,
     t: &[u8],
-    states: &Table,
-    list: &Table,
-    nout: &Counts,
+    states: &[u8],
+    list: &[u8],
+    nout: &[usize],
     left: usize,
     k: usize,
     pins: &[u16],
     flops: &[usize],
     outs: &[usize],
-    hits: &Hits,
-    masks: &Masks,
-    feed: &mut Feed,
-    words: &mut Words,
-    state: &mut State,
+    hits: &[u8],
+    masks: &[u64],
+    feed: &mut [u64],
+    words: &mut [u64],
+    state: &mut [u64],
     units: &mut Trials,
     bits: &mut Trials,
-    free: &mut Table,
-    merits: &mut Counts,
+    free: &mut [u8],
+    merits: &mut [usize],
     times: &mut Times,
-    extras: &mut Extras,
+    extras: &mut [u8],
     work: &mut [u8],
     result: &mut [u8],
 ) -> usize
-    requires { ⌜ (Tabled (now c) (now t) job (now pins) (now flops) (now outs)) × (k ≤ 12) × (L (now c) (now t) * O (now c) ≤ length (now work)) × (4 * (L (now c) (now t) * F (now c)) ≤ length (now work))
-        × (4 * k ≤ length (now result)) × (AtMost mostNout (L (now c) (now t)) (now nout)) ⌝ }
+    requires { ⌜ (Runnable (now c) (now t) job (now pins) (now flops) (now outs) (now hits) (now masks) (now feed) (now words) (now state)) × (k ≤ 12) × (L (now c) (now t) * O (now c) ≤ length (now work)) × (4 * (L (now c) (now t) * F (now c)) ≤ length (now work))
+        × (4 * k ≤ length (now result)) × (AtMost mostNout (L (now c) (now t)) (now nout)) × (L (now c) (now t) ≤ length (now nout))
+        × (PickRoom (now c) (now t) (now free) (now states) (now list) (now merits) (now extras)) ⌝ }
     ensures { λ r. ⌜ ChosenFrom (now (c .entry)) (now (t .entry)) (now (work .entry)) (now (states .entry)) (now (list .entry)) (now (hits .entry)) (now (masks .entry)) (now (nout .entry)) left k
         (now (result .entry)) (now (result .exit)) r ⌝ }
 {

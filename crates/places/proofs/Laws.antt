@@ -7,7 +7,7 @@ use Prim.Native.Nat.{ℕ, _+_, _*_, _≤_}
 use native.Mathlib.Omega.{arith}
 use native.Mathlib.Nat.{mul-le-mul-left, mul-add}
 use borrow.Author.Tests.{lt-ltb, ltb-false}
-use lib.ListN.{getD}
+use lib.ListN.{length, getD}
 use Rattle.lists.specs.Scan.{gather}
 use Rattle.lists.specs.Field.{overwritten, Rows}
 use Rattle.lists.proofs.Scan.{firstPair-more}
@@ -18,7 +18,9 @@ use Rattle.model.specs.Simulation.{noFault, powerUp, outputsAt, freeOutputs}
 use Rattle.model.specs.Expansion.{nout}
 use Rattle.model.specs.Grade.{placed, atPair, opposedAt, stage1, beforeStage5, grade}
 use Rattle.lanes.specs.Lane.{bit, Lane}
+use Rattle.job.specs.declared.Job.{Job}
 use Rattle.unit.specs.Unit.{Stuck}
+use Rattle.run.specs.Run.{Runnable}
 use Rattle.faults.specs.Given.{Batch, laneFault, Given}
 use Rattle.plain.specs.declared.Firsts.{Firsts}
 use Rattle.plain.specs.Places.{Places, placeAt}
@@ -40,6 +42,21 @@ unfolding freeOutputs
 free-rows c t table old e = response-rows c t noFault table old e
 
 -- ---- a batch
+-- runnable still, once faults have been given or taken back
+pub runnable-given : {c t pins flops outs hits masks feed words state : List ℕ} {job : Job} (hits′ masks′ : List ℕ) → Runnable c t job pins flops outs hits masks feed words state
+    → length hits′ ≡ length hits → length masks′ ≡ length masks → Runnable c t job pins flops outs hits′ masks′ feed words state
+runnable-given hits′ masks′ run lines rows = record {
+  circuit = run .circuit;
+  test = run .test;
+  sizes = run .sizes;
+  tables = run .tables;
+  hitRoom = omega (arith, run .hitRoom);
+  maskRoom = omega (arith, run .maskRoom);
+  feedRoom = run .feedRoom;
+  lineRoom = run .lineRoom;
+  stateRoom = run .stateRoom;
+}
+
 -- faults of an accepted list
 pub faults-of : {c t fs : List ℕ} {least most from count : ℕ} → ValidInputs c t least most fs → count ≤ 64 → from + count ≤ faultCount fs
     → Faults c fs from count
@@ -47,11 +64,11 @@ faults-of {from = from} valid few inside =
     record { few = few; room = omega (arith, valid .whole); valid = λ s h. valid .fault (from + s) (omega arith) }
 
 module _ {c fs : List ℕ} {from count : ℕ} (faults : Faults c fs from count) where
-  pub batch-of : ValidCircuit c → (n : ℕ) → n ≡ 4096 → Batch fs from count n
+  pub batch-of : ValidCircuit c → (n : ℕ) → N c ≤ n → Batch fs from count n
   batch-of circuit n e = record {
     few = faults .few;
     room = faults .room;
-    line = λ s h. omega (arith, faults .valid s h .line, circuit .lines);
+    line = λ s h. omega (arith, faults .valid s h .line);
     pin = λ s h. let fault = faults .valid s h in omega (arith, fault .pin, circuit .few _ (fault .line));
     value = λ s h. omega (arith, faults .valid s h .value);
   }

@@ -3,15 +3,11 @@ ghost use Prim.Native.Nat.{_+_, _*_, _≤_};
 ghost use lib.ListN.{length};
 ghost use Rattle.model.specs.Inputs.{O, L};
 ghost use Rattle.faults.specs.Given.{Blank};
-ghost use Rattle.stages.specs.Stages.{Tabled, Standing};
+ghost use Rattle.run.specs.Run.{Runnable};
+ghost use Rattle.stages.specs.Stages.{Standing};
 ghost use Rattle.places.specs.Found.{Faults, Found};
 use job::Job;
 use plain::Firsts;
-use stages::Feed;
-use stages::Hits;
-use stages::Masks;
-use stages::State;
-use stages::Words;
 
 // The first opposing places of the lanes: their units, or their lines.
 pub type Places = [usize; 64];
@@ -24,15 +20,16 @@ pub fn write_free(
     pins: &[u16],
     flops: &[usize],
     outs: &[usize],
-    hits: &Hits,
-    masks: &Masks,
-    feed: &mut Feed,
-    words: &mut Words,
-    state: &mut State,
+    hits: &[u8],
+    masks: &[u64],
+    feed: &mut [u64],
+    words: &mut [u64],
+    state: &mut [u64],
     states: &mut [u8],
     work: &mut [u8],
 )
-    requires { ⌜ (Tabled (now c) (now t) job (now pins) (now flops) (now outs)) × (Blank (now hits) (now masks)) × (L (now c) (now t) * O (now c) + L (now c) (now t) * O (now c) ≤ length (now work)) ⌝ }
+    requires { ⌜ (Runnable (now c) (now t) job (now pins) (now flops) (now outs) (now hits) (now masks) (now feed) (now words) (now state)) × (Blank (now hits) (now masks)) × (length (now hits) ≤ 65536)
+        × (L (now c) (now t) * O (now c) + L (now c) (now t) * O (now c) ≤ length (now work)) ⌝ }
     ensures { λ _. ⌜ Standing (now (c .entry)) (now (t .entry)) (now (work .exit)) ⌝ }
 {
     run::power_up(c, job.flops, state);
@@ -69,15 +66,15 @@ pub fn find_places(
     pins: &[u16],
     flops: &[usize],
     outs: &[usize],
-    hits: &mut Hits,
-    masks: &mut Masks,
-    feed: &mut Feed,
-    words: &mut Words,
-    state: &mut State,
+    hits: &mut [u8],
+    masks: &mut [u64],
+    feed: &mut [u64],
+    words: &mut [u64],
+    state: &mut [u64],
     moments: &mut Places,
     lines: &mut Places,
 ) -> Firsts
-    requires { ⌜ (Tabled (now c) (now t) job (now pins) (now flops) (now outs)) × (Standing (now c) (now t) (now free)) × (Blank (now hits) (now masks))
+    requires { ⌜ (Runnable (now c) (now t) job (now pins) (now flops) (now outs) (now hits) (now masks) (now feed) (now words) (now state)) × (Standing (now c) (now t) (now free)) × (Blank (now hits) (now masks)) × (length (now hits) ≤ 65536)
         × (Faults (now c) (now fs) from count) × (units ≤ L (now c) (now t)) ⌝ }
     ensures { λ r. ⌜ (Blank (now (hits .exit)) (now (masks .exit))) × (Found (now (c .entry)) (now (t .entry)) (now (fs .entry)) from count units r (now (moments .exit)) (now (lines .exit))) ⌝ }
 {

@@ -65,9 +65,6 @@ module _ {c t : List ℕ} {job : Job} {pins flops outs : List ℕ} (g : Tabled c
       → Runnable c t job pins flops outs hits masks feed words state
   runs h m f w s = runnable (g .circuit) (g .test) (g .sizes) (g .tables) (omega arith) (omega arith) (omega arith) (omega arith) (omega arith)
 
-  pub table-room : (n : ℕ) → n ≡ 262144 → L c t * F c ≤ n
-  table-room n e = omega (arith, mul-le-mul (g .test .most) (g .circuit .flipFlops))
-
   pub extra-room : (n : ℕ) → n ≡ 6144 → 24 * F c ≤ n
   extra-room n e = omega (arith, g .circuit .flipFlops)
 

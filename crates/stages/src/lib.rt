@@ -7,8 +7,9 @@ ghost use lib.ListN.{length, getD};
 ghost use Rattle.model.specs.Inputs.{O, L, Fault};
 ghost use Rattle.model.specs.Grade.{placed, beforeStage5, grade};
 ghost use Rattle.record.specs.Record.{verdictOf};
+ghost use Rattle.run.specs.Run.{Runnable};
 ghost use Rattle.take.specs.Take.{Prepared};
-ghost use Rattle.stages.specs.Stages.{Tabled, Gradable, Standing, RowRoom, OpenFrom, Deciding, Middling, Graded};
+ghost use Rattle.stages.specs.Stages.{Gradable, Standing, RowRoom, OpenFrom, Deciding, Middling, Graded};
 use expand::Walk;
 use job::Job;
 use record::Verdict;
@@ -29,10 +30,8 @@ pub type State = [u64; 512];
 // The units, or the flip-flops, of the 32 pairs of a word.
 pub type Trials = [usize; 32];
 
-// A row of state bits; a table of such rows, one a unit; Nout of every unit and behind the last.
+// A row of state bits; Nout of every unit and behind the last.
 pub type Row = [u8; 256];
-
-pub type Table = [u8; 262144];
 
 pub type Counts = [usize; 1025];
 
@@ -49,8 +48,8 @@ pub struct Middle {
 }
 
 // How many units there are before the first with Nout 0, from the responses without and with the fault, which the work area holds.
-fn open_units(job: Job, work: &[u8], nout: &mut Counts) -> usize
-    requires { ⌜ (job .units ≤ 1024) × (job .outputs ≤ 256) × (job .units * job .outputs + job .units * job .outputs ≤ length (now work)) ⌝ }
+fn open_units(job: Job, work: &[u8], nout: &mut [usize]) -> usize
+    requires { ⌜ (job .units ≤ 1024) × (job .outputs ≤ 256) × (job .units * job .outputs + job .units * job .outputs ≤ length (now work)) × (job .units < length (now nout)) ⌝ }
     ensures { λ r. ⌜ OpenFrom job (now (work .entry)) (now (nout .exit)) r ⌝ }
 {
     let at = job.units * job.outputs;
@@ -173,20 +172,21 @@ pub fn middle_stages(
     pins: &[u16],
     flops: &[usize],
     outs: &[usize],
-    hits: &Hits,
-    masks: &Masks,
-    feed: &mut Feed,
-    words: &mut Words,
-    state: &mut State,
+    hits: &[u8],
+    masks: &[u64],
+    feed: &mut [u64],
+    words: &mut [u64],
+    state: &mut [u64],
     units: &mut Trials,
     bits: &mut Trials,
     row: &mut Row,
     states: &mut [u8],
     list: &mut [u8],
-    nout: &mut Counts,
+    nout: &mut [usize],
     work: &mut [u8],
 ) -> Middle
-    requires { ⌜ (Tabled (now c) (now t) job (now pins) (now flops) (now outs)) × (Standing (now c) (now t) (now work)) × (RowRoom (now c) (now t) (now states)) × (RowRoom (now c) (now t) (now list)) ⌝ }
+    requires { ⌜ (Runnable (now c) (now t) job (now pins) (now flops) (now outs) (now hits) (now masks) (now feed) (now words) (now state)) × (Standing (now c) (now t) (now work)) × (RowRoom (now c) (now t) (now states)) × (RowRoom (now c) (now t) (now list))
+        × (L (now c) (now t) < length (now nout)) ⌝ }
     ensures { λ r. ⌜ Middling (now (c .entry)) (now (t .entry)) (now (hits .entry)) (now (masks .entry)) (now (states .exit)) (now (list .exit)) (now (nout .exit)) (now (work .exit)) r ⌝ }
 {
     fault::trace(

@@ -28,13 +28,24 @@ use Rattle.trial.specs.Trial.{Tried}
 use Rattle.sequences.specs.Ends.{Taken}
 use Rattle.expand.specs.Expand.{isX, pairAt, Filled, WordOf}
 use Rattle.expand.proofs.Tries.{word-of}
-use Rattle.expand.proofs.Place.{position, place-below, first-unit}
+use Rattle.expand.proofs.Place.{position, place-below, unit-inside, first-unit}
 use Rattle.take.specs.Take.{withRow, withPair, LaneExtra}
-use Rattle.take.proofs.Table.{row-with, lent-row}
+use Rattle.take.proofs.Table.{row-with, row-room, lent-row}
 use Rattle.take.proofs.Extras.{Says, lanes-made}
 use Rattle.take.proofs.Taken.{low-row, high-row, taken-kept}
 use Rattle.best.specs.Weights.{weightBytes, entryOf}
-use Rattle.weigh.specs.Weigh.{Candidate, EntryMade, Weighing, EntryAt, Entries}
+use Rattle.stages.specs.Stages.{RowRoom}
+use Rattle.weigh.specs.Weigh.{UnitRows, Candidate, EntryMade, Weighing, EntryAt, Entries}
+
+-- ---- room for the row of the unit of a position
+pub unit-rows : {c t table : List ℕ} (count next : ℕ) → count ≡ F c → 0 < count → next ≤ L c t * F c → RowRoom c t table → UnitRows count next table
+unit-rows {c} {t} count next es some last rows = record {
+  room = λ e h. row-room count (F c) (e / count) (L c t) _ es (unit-inside count (L c t) e some (rw es (omega arith))) (rows .room);
+}
+
+-- a position is in that row
+pub row-inside : (count e l : ℕ) → 0 < count → count * (e / count) + count ≤ l → e < l
+row-inside count e l some row = omega (arith, position count e, place-below count e some)
 
 -- ---- what stage 5 would take
 neither : (a b : Bool) → a || b ≡ false → not a && not b ≡ true

@@ -18,6 +18,10 @@ use Rattle.expand.specs.Expand.{pairAt, WordOf}
 use Rattle.take.specs.Take.{Prepared, withRow}
 use Rattle.best.specs.Weights.{entryOf, Weighed}
 
+-- the row of each unit that has a position before `next` lies within the table
+pub record UnitRows (count next : ℕ) (table : List ℕ) : Type 0 where
+  pub room : (e : ℕ) → e < next → count * (e / count) + count ≤ length table
+
 -- (u, i) names a unit and a flip-flop, its bit is X in the state list, and outputs are left before it: stage 5 takes it if its extras touch
 -- nothing.
 pub record Candidate (c t : List ℕ) (f : Fault) (u i : ℕ) : Type 0 where

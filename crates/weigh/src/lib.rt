@@ -6,21 +6,16 @@ ghost use mathlib.Core.Bool.{true};
 ghost use Prim.Native.Nat.{_+_, _*_, _/_, _<_, _≤_, min, max};
 ghost use lib.ListN.{length};
 ghost use Rattle.lists.specs.Field.{rowOf};
-ghost use Rattle.model.specs.Inputs.{F, L};
+ghost use Rattle.model.specs.Inputs.{F, O, L};
 ghost use Rattle.model.specs.Choose.{size};
+ghost use Rattle.lanes.specs.Lane.{Room};
+ghost use Rattle.run.specs.Run.{Runnable};
 ghost use Rattle.expand.specs.Expand.{isX, pairAt};
-ghost use Rattle.stages.specs.Stages.{Tabled};
-ghost use Rattle.weigh.specs.Weigh.{EntryMade, WeighedAt, WeighedWord, WeighedFrom, WeighedFirst, WeighedStart};
+ghost use Rattle.stages.specs.Stages.{RowRoom};
+ghost use Rattle.weigh.specs.Weigh.{UnitRows, EntryMade, WeighedAt, WeighedWord, WeighedFrom, WeighedFirst, WeighedStart};
 use job::Job;
-use stages::Extras;
-use stages::Feed;
-use stages::Hits;
-use stages::Masks;
-use stages::State;
-use stages::Table;
 use stages::Times;
 use stages::Trials;
-use stages::Words;
 
 // Two numbers, the smaller first.
 pub struct Sizes {
@@ -50,14 +45,14 @@ fn row_size(count: usize, extras: &[u8], r: usize) -> usize
 // The entry of a pair at unit u, whose extras are in the rows of pair m, behind those of the pairs taken.
 fn enter(
     count: usize,
-    list: &Table,
+    list: &[u8],
     u: usize,
     times: &Times,
     m: usize,
-    extras: &Extras,
+    extras: &[u8],
     entry: &mut [u8],
 )
-    requires { ⌜ (count ≤ 256) × (count * u + count ≤ 262144) × (m < 12) × (4 ≤ length (now entry)) ⌝ }
+    requires { ⌜ (count * u + count ≤ length (now list)) × (m < 12) × (24 * count ≤ length (now extras)) × (4 ≤ length (now entry)) ⌝ }
     ensures { λ _. ⌜ EntryMade count (now (list .entry)) u (now (times .entry)) m (now (extras .entry)) (now (entry .entry)) (now (entry .exit)) ⌝ }
 {
     if take::touches(count, list, u, times, m, extras) {
@@ -73,18 +68,19 @@ fn enter(
 // The entry of the pair at position e, which is pair p of a word if its bit is X in the state list.
 fn weigh_at(
     count: usize,
-    states: &Table,
-    list: &Table,
-    after: &State,
+    states: &[u8],
+    list: &[u8],
+    after: &[u64],
     marks: u64,
     p: usize,
     e: usize,
     m: usize,
     times: &Times,
-    extras: &mut Extras,
+    extras: &mut [u8],
     table: &mut [u8],
 )
-    requires { ⌜ (0 < count) × (count ≤ 256) × (e < 262144) × (count * (e / count) + count ≤ 262144) × (isX (now list) e ≡ true → p < 32) × (m < 12) × (4 * e + 4 ≤ length (now table)) ⌝ }
+    requires { ⌜ (0 < count) × (count * (e / count) + count ≤ length (now states)) × (count * (e / count) + count ≤ length (now list)) × (Room count (now after)) × (isX (now list) e ≡ true → p < 32) × (m < 12)
+        × (24 * count ≤ length (now extras)) × (4 * e + 4 ≤ length (now table)) ⌝ }
     ensures { λ _. ⌜ WeighedAt count (now (states .entry)) (now (list .entry)) (now (after .entry)) marks p e m (now (times .entry)) (now (extras .entry)) (now (table .entry))
         (now (extras .exit)) (now (table .exit)) ⌝ }
 {
@@ -102,18 +98,19 @@ fn weigh_at(
 // The entries of the pairs of a word, from position `at` to `next`.
 fn weigh_word(
     count: usize,
-    states: &Table,
-    list: &Table,
-    after: &State,
+    states: &[u8],
+    list: &[u8],
+    after: &[u64],
     marks: u64,
     at: usize,
     next: usize,
     m: usize,
     times: &Times,
-    extras: &mut Extras,
+    extras: &mut [u8],
     table: &mut [u8],
 )
-    requires { ⌜ (0 < count) × (count ≤ 256) × (at ≤ next) × (next ≤ 1024 * count) × (pairAt (now list) at next ≤ 32) × (m < 12) × (4 * next ≤ length (now table)) ⌝ }
+    requires { ⌜ (0 < count) × (at ≤ next) × (UnitRows count next (now states)) × (UnitRows count next (now list)) × (Room count (now after)) × (pairAt (now list) at next ≤ 32) × (m < 12)
+        × (24 * count ≤ length (now extras)) × (4 * next ≤ length (now table)) ⌝ }
     ensures { λ _. ⌜ WeighedWord count (now (states .entry)) (now (list .entry)) (now (after .entry)) marks at next m (now (times .entry)) (now (extras .entry)) (now (table .entry))
         (now (extras .exit)) (now (table .exit)) ⌝ }
 {
@@ -141,14 +138,14 @@ fn weigh_word(
 // The entry of (0, i).
 fn weigh_first(
     count: usize,
-    list: &Table,
+    list: &[u8],
     i: usize,
     m: usize,
     times: &Times,
-    extras: &mut Extras,
+    extras: &mut [u8],
     table: &mut [u8],
 )
-    requires { ⌜ (count ≤ 256) × (i < count) × (m < 12) × (4 * i + 4 ≤ length (now table)) ⌝ }
+    requires { ⌜ (count ≤ 256) × (i < count) × (count ≤ length (now list)) × (m < 12) × (24 * count ≤ length (now extras)) × (4 * i + 4 ≤ length (now table)) ⌝ }
     ensures { λ _. ⌜ WeighedFirst count (now (list .entry)) i m (now (times .entry)) (now (extras .entry)) (now (table .entry)) (now (extras .exit)) (now (table .exit)) ⌝ }
 {
     let at = 4 * i;
@@ -163,14 +160,14 @@ fn weigh_first(
 // The entries of unit 0, whose pairs need no trial, from position `from`: the position behind them.
 fn weigh_start(
     count: usize,
-    list: &Table,
+    list: &[u8],
     from: usize,
     m: usize,
     times: &Times,
-    extras: &mut Extras,
+    extras: &mut [u8],
     table: &mut [u8],
 ) -> usize
-    requires { ⌜ (count ≤ 256) × (m < 12) × (4 * count ≤ length (now table)) ⌝ }
+    requires { ⌜ (count ≤ 256) × (count ≤ length (now list)) × (m < 12) × (24 * count ≤ length (now extras)) × (4 * count ≤ length (now table)) ⌝ }
     ensures { λ r. ⌜ WeighedStart count (now (list .entry)) from m (now (times .entry)) (now (extras .entry)) (now (table .entry))
         (now (extras .exit)) (now (table .exit)) r ⌝ }
 {
@@ -187,28 +184,29 @@ pub fn weigh(
     c: &[u8],
     job: Job,
     t: &[u8],
-    free: &Table,
-    states: &Table,
-    list: &Table,
+    free: &[u8],
+    states: &[u8],
+    list: &[u8],
     from: usize,
     to: usize,
     m: usize,
     pins: &[u16],
     flops: &[usize],
     outs: &[usize],
-    hits: &Hits,
-    masks: &Masks,
-    feed: &mut Feed,
-    words: &mut Words,
-    state: &mut State,
+    hits: &[u8],
+    masks: &[u64],
+    feed: &mut [u64],
+    words: &mut [u64],
+    state: &mut [u64],
     units: &mut Trials,
     bits: &mut Trials,
     times: &Times,
-    extras: &mut Extras,
+    extras: &mut [u8],
     table: &mut [u8],
 )
-    requires { ⌜ (Tabled (now c) (now t) job (now pins) (now flops) (now outs)) × (from ≤ to) × (F (now c) ≤ to) × (to ≤ L (now c) (now t) * F (now c)) × (m < 12)
-        × (4 * to ≤ length (now table)) ⌝ }
+    requires { ⌜ (Runnable (now c) (now t) job (now pins) (now flops) (now outs) (now hits) (now masks) (now feed) (now words) (now state))
+        × (from ≤ to) × (F (now c) ≤ to) × (to ≤ L (now c) (now t) * F (now c)) × (m < 12) × (4 * to ≤ length (now table))
+        × (L (now c) (now t) * O (now c) ≤ length (now free)) × (RowRoom (now c) (now t) (now states)) × (RowRoom (now c) (now t) (now list)) × (24 * F (now c) ≤ length (now extras)) ⌝ }
     ensures { λ _. ⌜ WeighedFrom (now (c .entry)) (now (t .entry)) (now (free .entry)) (now (states .entry)) (now (list .entry)) (now (hits .entry))
         (now (masks .entry)) from to m (now (times .entry)) (now (extras .entry)) (now (table .entry)) (now (extras .exit)) (now (table .exit)) ⌝ }
 {

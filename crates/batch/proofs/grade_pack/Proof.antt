@@ -1,5 +1,6 @@
 use native.Mathlib.Omega.{arith}
 use Rattle.model.specs.Inputs.{faultCount}
+use Rattle.stages.proofs.Laws.{runs}
 use Rattle.batch.proofs.Laws.{sieved-part, packed-as, pack-faults, pack-found}
 use borrow.Author.Needs.{needs}
 use Rattle.batch.proofs.grade_pack.Statement.{statement}
@@ -24,10 +25,19 @@ next-pack-requires c κs = let s = c .before .before .before .before .before .be
 
 find-places-requires : tie.Need-find-places-requires
 find-places-requires c κs =
-    let few = c .before .before .before .before .before .before .before .before .before in
+    let state = c .before .before in
+    let masks = state .before .before .before in
+    let lines = masks .before .find-places-arg2 .given .0 .1 in
+    let few = masks .before .before .before .before in
     let pack = few .before in
-    let pre = start pack .pre in
-    (pre .0 .tabled, pre .1, pre .2, pack-faults (packed-as (pack .next-pack .ensures)) (pre .5) (omega (arith, few .few2 .given)), omega (arith, pre .0 .tabled .sizes .units))
+    let pre = start pack .pre in (
+      runs (pre .0 .tabled) lines (masks .find-places-arg3 .given .0 .1) (state .before .before .find-places-arg4 .given .0 .1) (state .before .find-places-arg5 .given .0 .1) (state .find-places-arg6 .given .0 .1),
+      pre .1,
+      pre .2,
+      omega (arith, lines),
+      pack-faults (packed-as (pack .next-pack .ensures)) (pre .5) (omega (arith, few .few2 .given)),
+      omega (arith, pre .0 .tabled .sizes .units),
+    )
 
 write-pack-requires : tie.Need-write-pack-requires
 write-pack-requires c κs =

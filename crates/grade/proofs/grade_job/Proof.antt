@@ -1,6 +1,7 @@
 use mathlib.Core.Path.{_∙_}
 use native.Mathlib.Omega.{arith}
 use Rattle.faults.proofs.Laws.{blank-zeros}
+use Rattle.stages.proofs.Laws.{runs}
 use Rattle.places.proofs.Laws.{work-room}
 use Rattle.grade.proofs.Laws.{gradable}
 use borrow.Author.Needs.{needs}
@@ -32,12 +33,13 @@ write-free-requires : tie.Need-write-free-requires
 write-free-requires c κs =
     let tables = tabled c in
     let pre = start (tables .before) .pre in
-    (gradable (pre .0) (pre .1) (tables .list-tables .ensures) .tabled, blank-zeros 4096 2560, work-room _ _ _ (pre .0 .workRoom))
+    let g = gradable (pre .0) (pre .1) (tables .list-tables .ensures) .tabled in
+    (runs g (omega arith) (omega arith) (omega arith) (omega arith) (omega arith), blank-zeros 4096 2560, omega arith, work-room _ _ _ (pre .0 .workRoom))
 
 grade-list-requires : tie.Need-grade-list-requires
 grade-list-requires c κs =
     let states = freed c .before .before in
-    let free = states .before in
+    let free = states .before .before .before .before in
     let tables = tabled (free .before) in
     let pre = start (tables .before) .pre in (
       gradable (pre .0) (pre .1) (tables .list-tables .ensures),
@@ -57,6 +59,11 @@ grade-job-spec =
     (λ c. search needs)
     (λ c. search needs)
     list-tables-requires
+    (λ c. search needs)
+    (λ c. search needs)
+    (λ c. search needs)
+    (λ c. search needs)
+    (λ c. search needs)
     (λ c. search needs)
     (λ c. search needs)
     (λ c. search needs)

@@ -7,21 +7,28 @@ use Rattle.model.specs.Inputs.{F, L}
 use Rattle.job.proofs.Laws.{response-size}
 use Rattle.pick.specs.Pick.{reachOf}
 use Rattle.pick.proofs.Laws.{reach-some, reach-most, picking, at-most}
+use borrow.Author.Needs.{needs}
 use Rattle.pick.proofs.choose_pairs.Statement.{statement}
 use Rattle.pick.proofs.choose_pairs.Tie as tie
 
 -- places
 abbrev start : tie.After-copy-row → tie.Start
-start c = c .before .before .before .before .before .before .before .before .before .before .before
+start c = c .before .before .before .before .before .before .before .before .before .before .before .before .before .before .before .before .before .before .before .before .before .before
+
+abbrev copied : tie.After-reached → tie.After-copy-row
+copied c = c .before .before .before
 
 abbrev reach : tie.After-set-merits → tie.After-reached
-reach c = c .before .before .before .before
+reach c = c .before .before
 
 abbrev begin : tie.After-reached → tie.Start
-begin c = start (c .before)
+begin c = start (copied c)
 
-abbrev merited : tie.After-pick-pairs → tie.After-set-merits
-merited c = c .before .before .before .before .before .before .before .before .before .before .before .before
+abbrev merited : tie.After-pick-pairs → tie.After-merits
+merited c = c .before .before .before .before .before .before .before .before .before .before .before .before .before
+
+abbrev picked : tie.After-slice-known16 → tie.After-pick-pairs
+picked c = c .before .before .before .before .before .before .before .before .before .before .before .before
 
 -- so many units may have a pair
 units : (c : tie.After-reached) → let a = begin c .args in c .reached .result ≡ reachOf (L (a .c .now) (a .t .now)) (a .left)
@@ -38,47 +45,57 @@ entry-room c =
     omega (arith, s .pre .3, mul-le-mul-left (F cs) (few c), mul-comm (F cs) (L cs (s .args .t .now)))
 
 mul-copy-row : tie.Need-mul-copy-row
-mul-copy-row c =
-    let s = c .before .before .before .before .before .before .before .before .before in
-    let g = s .pre .0 in
-    omega (arith, response-size (g .sizes), mul-le-mul (g .test .most) (g .circuit .outputs))
+mul-copy-row c = let g = c .before .before .before .before .before .before .before .before .before .before .before .before .before .before .before .before .before .before .before .before .pre .0 in omega (arith, response-size (g .sizes), mul-le-mul (g .test .most) (g .circuit .outputs))
 
 copy-row-requires : tie.Need-copy-row-requires
 copy-row-requires c κs =
-    let s = c .before .before .before .before .before .before .before .before .before .before in
-    let g = s .pre .0 in (
-      omega (arith, response-size (g .sizes), s .pre .2),
-      omega (arith, response-size (g .sizes), mul-le-mul (g .test .most) (g .circuit .outputs), c .copy-row-arg2 .given .0 .1),
-    )
+    let pre = c .before .before .before .before .before .before .before .before .before .before .before .before .before .before .before .before .before .before .before .before .before .pre in
+    let size = response-size (pre .0 .sizes) in
+    (omega (arith, size, pre .2), omega (arith, size, pre .7 .responses))
 
 set-merits-requires : tie.Need-set-merits-requires
 set-merits-requires c κs =
-    let at = c .before .before .before in
+    let at = c .before in
     let s = begin at in
     let g = s .pre .0 in
     let few-units = few at in (
       omega (arith, few-units, g .test .most),
       omega (arith, g .sizes .flops, g .circuit .flipFlops),
-      rw (g .sizes .flops) (omega (arith, mul-le-mul few-units (g .circuit .flipFlops), mul-le-mul-right (F (s .args .c .now)) few-units, mul-le-mul (g .test .most) (g .circuit .flipFlops), c .before .before .set-merits-arg .given .0)),
-      omega (arith, few-units, g .test .most, c .before .set-merits-arg2 .given .0),
-      omega (arith, few-units, g .test .most, c .set-merits-arg3 .given .0 .1),
+      rw (g .sizes .flops) (omega (arith, mul-le-mul-right (F (s .args .c .now)) few-units, s .pre .7 .plain .room)),
+      omega (arith, few-units, s .pre .6),
+      omega (arith, few-units, s .pre .7 .units),
       at-most _ _ _ _ few-units (s .pre .5),
     )
 
 pick-pairs-requires : tie.Need-pick-pairs-requires
 pick-pairs-requires c κs =
-    let merits = c .before .before .before .before .before .before .before .before .before .before .before in
-    let at = reach merits in
+    let merits = c .before .before .before .before .before .before .before .before .before .before .before .before in
+    let at = reach (merits .before) in
     let s = begin at in
-    (s .pre .0, reach-some _ _ _ (units at) (s .pre .0 .test .some), few at, s .pre .1, entry-room at, s .pre .4, merits .set-merits .ensures .small)
+    let room = s .pre .7 in (
+      s .pre .0,
+      reach-some _ _ _ (units at) (s .pre .0 .test .some),
+      few at,
+      s .pre .1,
+      entry-room at,
+      s .pre .4,
+      merits .before .set-merits .ensures .small,
+      record {
+        responses = omega (arith, room .responses, at .before .before .free .given);
+        plain = room .plain;
+        rows = room .rows;
+        units = omega (arith, room .units, merits .merits .given);
+        pairs = room .pairs;
+      },
+    )
 
 returns : tie.Need-returns
 returns c = record {
   records = λ f ready three nouts.
-      let pick = c .before .before .before .before in
-      let merits = merited pick in
+      let pick = picked c in
+      let merits = merited pick .before in
       let at = reach merits in
-      let copy = at .before in
+      let copy = copied at in
       let s = start copy in
       let g = s .pre .0 in
       pick .pick-pairs .ensures .records f
@@ -95,6 +112,12 @@ choose-pairs-spec =
     (λ c κs. tt)
     set-merits-requires
     pick-pairs-requires
-    (λ c. c .before .before .before .work .given)
-    (λ c. c .before .result .given)
+    (λ c. search needs)
+    (λ c. search needs)
+    (λ c. search needs)
+    (λ c. reach (merited (picked c) .before) .before .before .free .given)
+    (λ c. merited (picked c) .merits .given)
+    (λ c. search needs)
+    (λ c. search needs)
+    (λ c. search needs)
     returns)

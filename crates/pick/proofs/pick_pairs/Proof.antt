@@ -8,7 +8,7 @@ use Rattle.lists.proofs.Field.{length-lent, row-fits}
 use Rattle.model.specs.Inputs.{F, Fault}
 use Rattle.model.specs.Choose.{bestPairs}
 use Rattle.best.specs.Best.{Picked}
-use Rattle.stages.proofs.Laws.{runs, table-room, extra-room}
+use Rattle.run.proofs.Laws.{runnable-again}
 use Rattle.pick.specs.Pick.{Picking, PickedTo}
 use Rattle.pick.proofs.Laws.{none-behind, weighed-as, picked-none, all-weighed, picked-next, records-stop, records-all}
 use borrow.Author.Needs.{needs}
@@ -19,6 +19,7 @@ abbrev Inv-loop : tie.InvT-loop
 Inv-loop c job t free states list left reach k merits pins flops outs hits masks feed₀ words₀ state₀ units₀ bits₀ times₀ extras₀
     table₀ result₀ m₀ from₀ to₀ feed words state units bits times extras table result m from to =
     (m ≤ k) × (from ≤ to) × (F c ≤ to) × (to ≤ F c * reach) × (length table ≡ length table₀) × (length result ≡ length result₀)
+    × (length feed ≡ length feed₀) × (length words ≡ length words₀) × (length state ≡ length state₀) × (length extras ≡ length extras₀)
     × ((f : Fault) → Picking c t f free states list hits masks merits left reach
     → PickedTo c t f reach from to m times extras table result₀ result)
 
@@ -31,19 +32,25 @@ abbrev Loop : Type 0
 Loop = tie.At-loop Inv-loop μ-loop
 
 abbrev start : Loop → tie.Start Inv-loop μ-loop
-start l = l .before .before .before .before .before .before .before .before .before
+start l = l .before .before .before .before .before .before .before .before .before .before .before .before .before .before .before .before .before .before .before
 
 abbrev turn : tie.After-weigh Inv-loop μ-loop → tie.In-loop Inv-loop μ-loop
 turn c = c .before .before .before .before .before .before .before .before .before
 
+abbrev weighed : tie.After-table Inv-loop μ-loop → tie.After-weigh Inv-loop μ-loop
+weighed c = c .before .before .before .before .before .before .before .before .before
+
 abbrev lent : tie.After-best-pair Inv-loop μ-loop → tie.After-table Inv-loop μ-loop
-lent c = c .before .before .before .before
+lent c = c .before .before .before
 
 abbrev found : tie.After-take-pair Inv-loop μ-loop → tie.Else1 Inv-loop μ-loop
-found c = c .before .before .before .before .before .before .before .before .before .before .before .before .before
+found c = c .before .before .before .before .before .before .before .before
+
+abbrev taken : tie.After-slice-known15 Inv-loop μ-loop → tie.After-take-pair Inv-loop μ-loop
+taken c = c .before .before .before .before .before .before .before .before
 
 abbrev took : tie.After-result Inv-loop μ-loop → tie.After-take-pair Inv-loop μ-loop
-took c = c .before .before .before
+took c = taken (c .before .before .before)
 
 abbrev put : tie.After-struct-known5 Inv-loop μ-loop → tie.After-result Inv-loop μ-loop
 put c = c .before .before .before .before
@@ -52,7 +59,7 @@ abbrev best : tie.Else1 Inv-loop μ-loop → tie.After-best-pair Inv-loop μ-loo
 best c = c .before .before
 
 abbrev asked : tie.After-best-pair Inv-loop μ-loop → tie.In-loop Inv-loop μ-loop
-asked c = turn (lent c .before)
+asked c = turn (weighed (lent c))
 
 abbrev in-turn : tie.Else1 Inv-loop μ-loop → tie.In-loop Inv-loop μ-loop
 in-turn c = asked (best c)
@@ -92,22 +99,26 @@ next c f p =
     let l = asked c .before in
     let s = start l in
     let g = s .pre .0 in
-    let done = all-weighed p (g .test) (l .loop .inv .6 f p) (lent c .before .weigh .ensures) (l .loop .inv .3) (entry-room l) in
+    let done = all-weighed p (g .test) (l .loop .inv .10 f p) (weighed (lent c) .weigh .ensures) (l .loop .inv .3) (entry-room l) in
     c .best-pair .ensures .picked _ _ f _ (g .sizes .flops) (s .pre .2) (p .worth)
     (weighed-as (s .args .reach) (g .sizes .flops) (done .behind)) (none-behind p _)
 
 mul-to : tie.Need-mul-to Inv-loop μ-loop
-mul-to c = let s = c .before .before .before .before .before .before .before .before in omega (arith, all-entries s, entries-few s)
+mul-to c = let s = c .before .before .before .before .before .before .before .before .before .before .before .before .before .before .before .before .before .before in omega (arith, all-entries s, entries-few s)
 
 loop-holds : tie.Need-loop-holds Inv-loop μ-loop
 loop-holds c =
-    let s = c .before .before .before .before .before .before .before .before in
+    let s = c .before .before .before .before .before .before .before .before .before .before .before .before .before .before .before .before .before .before in
     let count = F (s .args .c .now) in
     let up : count * 1 ≤ count * s .args .reach = mul-le-mul-left count (s .pre .1) in (
       omega arith,
       omega arith,
       omega (arith, all-entries s),
       omega (arith, all-entries s),
+      refl,
+      refl,
+      refl,
+      refl,
       refl,
       refl,
       λ f p. picked-none _ _ f (s .pre .0 .sizes .flops),
@@ -118,24 +129,30 @@ weigh-requires c κs =
     let in-loop = c .before .before .before .before .before .before .before .before in
     let l = in-loop .before in
     let s = start l in
+    let inv = l .loop .inv in
+    let room = s .pre .7 in
     let count = F (s .args .c .now) in (
-      s .pre .0,
-      l .loop .inv .1,
-      l .loop .inv .2,
-      omega (arith, l .loop .inv .3, mul-le-mul-right count (s .pre .2), mul-comm count (s .args .reach)),
+      runnable-again _ _ _ (s .pre .0) (inv .6) (inv .7) (inv .8),
+      inv .1,
+      inv .2,
+      omega (arith, inv .3, mul-le-mul-right count (s .pre .2), mul-comm count (s .args .reach)),
       omega (arith, in-loop .loop-test .taken, s .pre .3),
-      omega (arith, l .loop .inv .3, entry-room l),
+      omega (arith, inv .3, entry-room l),
+      room .responses,
+      room .plain,
+      room .rows,
+      omega (arith, room .pairs, inv .9),
     )
 
 best-pair-requires : tie.Need-best-pair-requires Inv-loop μ-loop
 best-pair-requires c κs =
-    let table = c .before .before .before in
-    let l = turn (table .before) .before in
+    let table = c .before .before in
+    let l = turn (weighed table) .before in
     let s = start l in
     let g = s .pre .0 in (
       omega (arith, s .pre .2, g .test .most),
       omega (arith, g .sizes .flops, g .circuit .flipFlops),
-      omega (arith, s .pre .2, g .test .most, c .before .best-pair-arg .given .0),
+      omega (arith, s .pre .2, s .pre .7 .units),
       omega (arith, all-entries s, entry-room l, table .table .given),
       s .pre .6,
     )
@@ -145,36 +162,28 @@ returns c = record {
   records = λ f p.
       let at = c .before .before in
       let l = asked at .before .loop in
-      records-stop _ _ f (next at f p .nothing (c .if1 .taken)) (l .inv .0) (l .inv .6 f p);
+      records-stop _ _ f (next at f p .nothing (c .if1 .taken)) (l .inv .0) (l .inv .10 f p);
 }
 
 take-pair-requires : tie.Need-take-pair-requires Inv-loop μ-loop
 take-pair-requires c κs =
     let times = c .before in
-    let bits = times .before in
-    let units = bits .before in
-    let state = units .before in
-    let words = state .before in
-    let feed = words .before in
-    let masks = feed .before in
-    let hits = masks .before in
-    let list = hits .before in
-    let states = list .before in
-    let free = states .before in
-    let else = free .before in
+    let else = times .before .before .before .before .before .before in
+    let table = lent (best else) in
     let in-loop = in-turn else in
     let s = start (in-loop .before) in
-    let g = s .pre .0 in (
-      runs g (hits .take-pair-arg4 .given .0) (masks .take-pair-arg5 .given .0) (feed .take-pair-arg6 .given .0 .1) (words .take-pair-arg7 .given .0 .1) (state .take-pair-arg8 .given .0 .1),
-      omega (arith, mul-le-mul (g .test .most) (g .circuit .outputs), free .take-pair-arg .given .0),
-      table-room g _ (states .take-pair-arg2 .given .0),
-      table-room g _ (list .take-pair-arg3 .given .0),
+    let inv = in-loop .before .loop .inv in
+    let room = s .pre .7 in (
+      runnable-again _ _ _ (s .pre .0) (table .before .before .before .before .before .before .before .before .feed .given ∙ inv .6) (table .before .before .before .before .before .before .words .given ∙ inv .7) (table .before .before .before .before .state .given ∙ inv .8),
+      room .responses,
+      room .plain .room,
+      room .rows .room,
       omega (arith, in-loop .loop-test .taken),
       s .pre .3,
-      omega (arith, units .take-pair-arg9 .given .0 .1),
-      omega (arith, bits .take-pair-arg10 .given .0 .1),
-      omega (arith, times .take-pair-arg11 .given .0 .1),
-      extra-room g _ (c .take-pair-arg12 .given .0 .1),
+      omega (arith, times .before .before .take-pair-arg4 .given .0 .1),
+      omega (arith, times .before .take-pair-arg5 .given .0 .1),
+      omega (arith, times .take-pair-arg6 .given .0 .1),
+      omega (arith, room .pairs, table .before .before .extras .given, inv .9),
     )
 
 -- room for the record
@@ -197,8 +206,12 @@ loop-again c =
       unit-inside else,
       table .table .given ∙ l .loop .inv .4,
       omega (arith, wrote .result .given, l .loop .inv .5),
+      wrote .before .before .before .before .before .before .before .before .before .before .feed2 .given ∙ table .before .before .before .before .before .before .before .before .feed .given ∙ l .loop .inv .6,
+      wrote .before .before .before .before .before .before .before .before .words2 .given ∙ table .before .before .before .before .before .before .words .given ∙ l .loop .inv .7,
+      wrote .before .before .before .before .before .before .state2 .given ∙ table .before .before .before .before .state .given ∙ l .loop .inv .8,
+      wrote .before .before .before .before .extras2 .given ∙ table .before .before .extras .given ∙ l .loop .inv .9,
       λ f p.
-          let done = all-weighed p (g .test) (l .loop .inv .6 f p) (table .before .weigh .ensures) (l .loop .inv .3) (entry-room l) in
+          let done = all-weighed p (g .test) (l .loop .inv .10 f p) (weighed table .weigh .ensures) (l .loop .inv .3) (entry-room l) in
           picked-next (g .sizes .flops) done (next (best else) f p .found (scored else)) (below else) (in-loop .loop-test .taken)
           (take .take-pair .ensures .next f _ (p .ready) (done .taken)) (wrote .before .put-two .ensures),
     )
@@ -208,7 +221,7 @@ returns-2 c = record {
   records = λ f p.
       let l = c .before .loop in
       let end : l .m ≡ start (c .before) .args .k = omega (arith, l .inv .0, c .loop-test .left) in
-      records-all _ _ f end (l .inv .6 f p);
+      records-all _ _ f end (l .inv .10 f p);
 }
 
 pub pick-pairs-spec : {M : Type 1} → statement M
@@ -221,20 +234,28 @@ pick-pairs-spec =
     loop-holds
     weigh-requires
     best-pair-requires
-    (λ c. let table = lent (c .before .before) in table .table .given ∙ turn (table .before) .before .loop .inv .4)
+    (λ c. let table = lent (c .before .before) in table .before .before .before .before .before .before .before .before .feed .given ∙ turn (weighed table) .before .loop .inv .6)
+    (λ c. let table = lent (c .before .before) in table .before .before .before .before .before .before .words .given ∙ turn (weighed table) .before .loop .inv .7)
+    (λ c. let table = lent (c .before .before) in table .before .before .before .before .state .given ∙ turn (weighed table) .before .loop .inv .8)
+    (λ c. let table = lent (c .before .before) in table .before .before .extras .given ∙ turn (weighed table) .before .loop .inv .9)
+    (λ c. let table = lent (c .before .before) in table .table .given ∙ turn (weighed table) .before .loop .inv .4)
     (λ c. asked (c .before .before) .before .loop .inv .5)
     returns
     take-pair-requires
-    (λ c. let in-loop = in-turn (found c) in omega (arith, in-loop .loop-test .taken, start (in-loop .before) .pre .3))
-    (λ c. omega (arith, record-room c))
-    (λ c. omega (arith, record-room c))
+    (λ c. let in-loop = in-turn (found (taken c)) in omega (arith, in-loop .loop-test .taken, start (in-loop .before) .pre .3))
+    (λ c. omega (arith, record-room (taken c)))
+    (λ c. omega (arith, record-room (taken c)))
     (λ c. search needs)
-    (λ c κs. let l = in-turn (found (c .before)) .before in rw (length-lent (l .loop .result) (4 * l .loop .m)) (omega (arith, record-room (c .before))))
+    (λ c κs. let take = taken (c .before) in let l = in-turn (found take) .before in rw (length-lent (l .loop .result) (4 * l .loop .m)) (omega (arith, record-room take)))
     (λ c. let else = found (took (c .before .before .before)) in omega (arith, unit-inside else, entries-few (start (in-turn else .before))))
     (λ c. let else = found (took (put c)) in omega (arith, unit-inside else, entries-few (start (in-turn else .before))))
     (λ c. let in-loop = in-turn (found (took (put c))) in omega (arith, in-loop .loop-test .taken, start (in-loop .before) .pre .3))
     (λ c. omega (arith, in-turn (found (took (put c))) .loop-test .taken))
     loop-again
+    (λ c. c .before .loop .inv .6)
+    (λ c. c .before .loop .inv .7)
+    (λ c. c .before .loop .inv .8)
+    (λ c. c .before .loop .inv .9)
     (λ c. c .before .loop .inv .4)
     (λ c. c .before .loop .inv .5)
     returns-2)

@@ -1,4 +1,5 @@
 use native.Mathlib.Omega.{arith}
+use Rattle.stages.proofs.Laws.{runs}
 use Rattle.places.proofs.Laws.{faults-of}
 use Rattle.sieve.proofs.Laws.{early-noted}
 use borrow.Author.Needs.{needs}
@@ -13,7 +14,18 @@ abbrev found : tie.After-write-early-arg → tie.After-find-places
 found c = c .before .before .before
 
 find-places-requires : tie.Need-find-places-requires
-find-places-requires c κs = let pre = start c .pre in (pre .0, pre .1, pre .2, faults-of (pre .3) (pre .4) (pre .5), pre .6)
+find-places-requires c κs =
+    let pre = start c .pre in
+    let state = c .before .before in
+    let masks = state .before .before .before in
+    let lines = masks .before .find-places-arg .given .0 .1 in (
+      runs (pre .0) lines (masks .find-places-arg2 .given .0 .1) (state .before .before .find-places-arg3 .given .0 .1) (state .before .find-places-arg4 .given .0 .1) (state .find-places-arg5 .given .0 .1),
+      pre .1,
+      pre .2,
+      omega (arith, lines),
+      faults-of (pre .3) (pre .4) (pre .5),
+      pre .6,
+    )
 
 write-early-requires : tie.Need-write-early-requires
 write-early-requires c κs = let pre = start (found c .before) .pre in (pre .4, omega (arith, pre .5, pre .7))

@@ -4,7 +4,7 @@ use native.Mathlib.Omega.{arith}
 use native.Mathlib.Nat.{mul-le-mul}
 use Rattle.model.specs.Inputs.{F, L}
 use Rattle.expand.proofs.Begin.{product-as, factor-some}
-use Rattle.stages.proofs.Laws.{flops-room, pair-named, graded-before}
+use Rattle.stages.proofs.Laws.{flops-room, pair-named, graded-before, runs}
 use borrow.Author.Needs.{needs}
 use Rattle.stages.proofs.later_stages.Statement.{statement}
 use Rattle.stages.proofs.later_stages.Tie as tie
@@ -14,7 +14,7 @@ abbrev staged : tie.After-struct-known → tie.After-middle-stages
 staged c = c .before .before .before .before .before .before .before
 
 abbrev start : tie.After-middle-stages → tie.Start
-start c = c .before .before .before .before .before .before .before .before .before .before .before .before .before .before .before .before .before .before .before .before
+start c = c .before .before .before .before .before .before .before .before .before .before .before .before .before .before .before .before .before .before .before .before .before .before
 
 abbrev some-left : tie.After-struct-known3 → tie.Else1
 some-left c = c .before .before
@@ -29,7 +29,17 @@ abbrev last : tie.After-last-stages-arg10 → tie.Else2
 last c = c .before .before .before .before .before .before .before .before .before .before
 
 middle-stages-requires : tie.Need-middle-stages-requires
-middle-stages-requires c κs = let s = c .before .before .before .before .before .before .before .before .before .before .before .before .before .before .before .before .before .before .before in (s .pre .0 .tabled, s .pre .1, s .pre .2, s .pre .3)
+middle-stages-requires c κs =
+    let state = c .before .before .before .before .before .before .before in
+    let feed = state .before .before in
+    let s = feed .before .before .before .before .before .before .before .before .before .before .before .before in
+    let g = s .pre .0 .tabled in (
+      runs g (feed .before .before .middle-stages-arg .given .0) (feed .before .middle-stages-arg2 .given .0) (feed .middle-stages-arg3 .given .0 .1) (state .before .middle-stages-arg4 .given .0 .1) (state .middle-stages-arg5 .given .0 .1),
+      s .pre .1,
+      s .pre .2,
+      s .pre .3,
+      omega (arith, g .test .most, c .before .middle-stages-arg11 .given .0 .1),
+    )
 
 returns : tie.Need-returns
 returns c =

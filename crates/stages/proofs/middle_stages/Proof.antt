@@ -1,4 +1,4 @@
-use mathlib.Core.Path.{_≡_}
+use mathlib.Core.Path.{_≡_, _∙_}
 use Prim.Native.Nat.{_*_}
 use native.Mathlib.Omega.{arith}
 use native.Mathlib.Nat.{mul-le-mul}
@@ -8,45 +8,56 @@ use Rattle.model.specs.Accepted.{ValidFault}
 use Rattle.model.specs.Grade.{stage1, stage2}
 use Rattle.job.proofs.Laws.{response-size}
 use Rattle.unit.specs.Unit.{Stuck}
+use Rattle.run.proofs.Laws.{runnable-again}
 use Rattle.pending.specs.Pending.{OpenUnits}
 use Rattle.expand.proofs.Begin.{product-as}
-use Rattle.stages.proofs.Laws.{deciding-as, before-5, stage2-none, before-2, before-none, prepared, runs, standing-again}
+use Rattle.stages.proofs.Laws.{deciding-as, before-5, stage2-none, before-2, before-none, prepared, standing-again}
 use borrow.Author.Needs.{needs}
 use Rattle.stages.proofs.middle_stages.Statement.{statement}
 use Rattle.stages.proofs.middle_stages.Tie as tie
 
 -- places
 abbrev start : tie.After-trace-arg → tie.Start
-start c = c .before .before .before .before .before .before .before .before .before
+start c = c .before .before .before .before .before .before .before .before .before .before .before .before .before .before .before
 
 abbrev begun : tie.After-trace → tie.Start
-begun c = start (c .before .before .before .before .before .before .before)
+begun c = start (c .before .before .before .before .before)
 
 abbrev traced : tie.After-open-units → tie.After-work
 traced c = c .before .before .before .before
 
+abbrev rowed : tie.After-work → tie.After-states
+rowed c = c .before .before
+
+abbrev stated : tie.After-work → tie.After-state
+stated c = c .before .before .before .before
+
+abbrev worded : tie.After-work → tie.After-words
+worded c = c .before .before .before .before .before .before
+
+abbrev fed : tie.After-work → tie.After-feed
+fed c = c .before .before .before .before .before .before .before .before
+
 abbrev ran : tie.After-work → tie.After-trace
-ran c = c .before .before .before
+ran c = fed c .before
 
 abbrev first : tie.After-open-units → tie.Start
 first c = begun (ran (traced c))
 
+abbrev counted : tie.After-slice-known13 → tie.After-open-units
+counted c = c .before .before
+
 abbrev opened : tie.After-expand → tie.Else1
-opened c = c .before .before .before .before .before .before .before .before .before .before .before .before
+opened c = c .before .before .before .before .before .before .before .before .before .before
 
 abbrev walked : tie.After-deciding → tie.After-expand
-walked c = c .before .before .before .before
+walked c = c .before .before .before .before .before .before .before .before .before .before
+
+abbrev left : tie.After-expand → tie.After-open-units
+left c = counted (opened c .before)
 
 trace-requires : tie.Need-trace-requires
-trace-requires c κs =
-    let state = c .before .before in
-    let feed = state .before .before in
-    let s = start (feed .before .before) in (
-      runs (s .pre .0) (feed .before .before .trace-arg .given .0) (feed .before .trace-arg2 .given .0) (feed .trace-arg3 .given .0 .1) (state .before .trace-arg4 .given .0 .1) (state .trace-arg5 .given .0 .1),
-      s .pre .2 .room,
-      s .pre .1 .room,
-      s .pre .1 .frees,
-    )
+trace-requires c κs = let pre = start (c .before .before .before .before) .pre in (pre .0, pre .2 .room, pre .1 .room, pre .1 .frees)
 
 open-units-requires : tie.Need-open-units-requires
 open-units-requires c κs =
@@ -56,6 +67,7 @@ open-units-requires c κs =
       omega (arith, g .sizes .units, g .test .most),
       omega (arith, g .sizes .outputs, g .circuit .outputs),
       omega (arith, response-size (g .sizes), s .pre .1 .room, after .work .given),
+      omega (arith, g .sizes .units, s .pre .4),
     )
 
 -- at how many units Nout is above 0
@@ -64,7 +76,7 @@ above c f stuck = let trace = ran (traced c) .trace .ensures in c .open-units .e
 
 returns : tie.Need-returns
 returns c =
-    let left = c .before in
+    let left = counted (c .before) in
     let s = first left in
     let g = s .pre .0 in
     let trace = ran (traced left) .trace .ensures in record {
@@ -81,18 +93,15 @@ returns c =
 expand-requires : tie.Need-expand-requires
 expand-requires c κs =
     let row = c .before in
-    let state = row .before .before .before in
-    let feed = state .before .before in
-    let left = feed .before .before .before .before .before .before in
-    let s = first left in
-    let g = s .pre .0 in (
-      runs g (feed .before .before .expand-arg3 .given .0) (feed .before .expand-arg4 .given .0) (feed .expand-arg5 .given .0 .1) (state .before .expand-arg6 .given .0 .1) (state .expand-arg7 .given .0 .1),
-      omega (arith, s .pre .1 .room, traced left .work .given),
-      omega (arith, s .pre .2 .room, traced left .before .before .states .given),
+    let after = traced (counted (row .before .before .before .before .before .before .before .before .before)) in
+    let s = begun (ran after) in (
+      runnable-again _ _ _ (s .pre .0) (fed after .feed .given) (worded after .words .given) (stated after .state .given),
+      omega (arith, s .pre .1 .room, after .work .given),
+      omega (arith, s .pre .2 .room, rowed after .states .given),
       s .pre .3 .room,
-      omega (arith, row .before .before .expand-arg8 .given .0 .1),
-      omega (arith, row .before .expand-arg9 .given .0 .1),
-      omega (arith, row .expand-arg10 .given .0 .1),
+      omega (arith, row .before .before .expand-arg6 .given .0 .1),
+      omega (arith, row .before .expand-arg7 .given .0 .1),
+      omega (arith, row .expand-arg8 .given .0 .1),
     )
 
 -- how many positions the walk has
@@ -101,25 +110,19 @@ positions s = product-as _ _ _ _ (s .pre .0 .sizes .flops) (s .pre .0 .sizes .un
 
 mul-deciding : tie.Need-mul-deciding
 mul-deciding c =
-    let s = first (opened (c .before .before .before) .before) in
+    let s = first (left (c .before .before .before .before .before .before .before .before .before)) in
     omega (arith, positions s, mul-le-mul (s .pre .0 .test .most) (s .pre .0 .circuit .flipFlops))
 
 -- stage 2 gives no verdict
-second : (c : tie.Else1) (f : Fault) → let s = first (c .before) .args in
+second : (c : tie.Else1) (f : Fault) → let s = first (counted (c .before)) .args in
     Stuck 0 (s .hits .now) (s .masks .now) f → ValidFault (s .c .now) f → stage1 (s .c .now) (s .t .now) f ≡ none → stage2 (s .c .now) (s .t .now) f ≡ none
-second c f stuck fault open-first = let g = first (c .before) .pre .0 in stage2-none _ _ f open-first (g .circuit) (g .test) fault (above (c .before) f stuck .above 0 (omega (arith, c .if1 .left)))
-
-same-length-3 : tie.Need-same-length-3
-same-length-3 c = traced (opened (walked c) .before) .before .before .states .given
-
-same-length-5 : tie.Need-same-length-5
-same-length-5 c = traced (opened (walked c) .before) .work .given
+second c f stuck fault open-first = let g = first (counted (c .before)) .pre .0 in stage2-none _ _ f open-first (g .circuit) (g .test) fault (above (counted (c .before)) f stuck .above 0 (omega (arith, c .if1 .left)))
 
 returns-2 : tie.Need-returns-2
 returns-2 c =
     let walk = walked c in
     let else = opened walk in
-    let left = else .before in
+    let left = counted (else .before) in
     let s = first left in
     let trace = ran (traced left) .trace .ensures in
     let decides = deciding-as (positions s) (c .deciding .ensures) in record {
@@ -144,11 +147,19 @@ middle-stages-spec =
     open-units-requires
     (λ c. search needs)
     (λ c. search needs)
+    (λ c. search needs)
+    (λ c. search needs)
+    (λ c. search needs)
+    (λ c. search needs)
     returns
     expand-requires
     mul-deciding
     (λ c κs. search needs)
-    same-length-3
+    (λ c. c .before .before .before .before .before .before .before .before .before .feed2 .given ∙ fed (traced (left (walked c))) .feed .given)
+    (λ c. c .before .before .before .before .before .before .before .words2 .given ∙ worded (traced (left (walked c))) .words .given)
+    (λ c. c .before .before .before .before .before .state2 .given ∙ stated (traced (left (walked c))) .state .given)
+    (λ c. rowed (traced (left (walked c))) .states .given)
     (λ c. search needs)
-    same-length-5
+    (λ c. opened (walked c) .before .before .nout .given)
+    (λ c. traced (left (walked c)) .work .given)
     returns-2)

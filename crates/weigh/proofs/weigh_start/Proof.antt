@@ -12,7 +12,7 @@ use Rattle.weigh.proofs.weigh_start.Tie as tie
 
 abbrev Inv-loop : tie.InvT-loop
 Inv-loop count list from m times extras₀ table₀ i₀ extras table i =
-    (from ≤ i) × ((to : ℕ) → from ≤ to → count ≤ to → i ≤ to) × (length table ≡ length table₀)
+    (from ≤ i) × ((to : ℕ) → from ≤ to → count ≤ to → i ≤ to) × (length extras ≡ length extras₀) × (length table ≡ length table₀)
     × ((c t : List ℕ) (f : Fault) (pairs : List (ℕ × ℕ)) (stop : ℕ) (states : List ℕ) → Weighing c t f pairs count stop states list m times extras₀ → F c ≤ stop
     → Entries c t f pairs m times from i table₀ extras table)
 
@@ -24,22 +24,23 @@ abbrev Loop : Type 0
 Loop = tie.At-loop Inv-loop μ-loop
 
 abbrev start : Loop → tie.Start Inv-loop μ-loop
-start l = l .before .before
+start l = l .before .before .before .before
 
-abbrev written : tie.After-slice-known2 Inv-loop μ-loop → tie.After-weigh-first Inv-loop μ-loop
-written c = c .before .before
+abbrev written : tie.After-slice-known4 Inv-loop μ-loop → tie.After-weigh-first Inv-loop μ-loop
+written c = c .before .before .before .before
 
 abbrev turn : tie.After-weigh-first Inv-loop μ-loop → tie.In-loop Inv-loop μ-loop
 turn c = c .before .before .before
 
 loop-holds : tie.Need-loop-holds Inv-loop μ-loop
-loop-holds c = (omega arith, λ to h l. h, refl, λ cs ts f pairs stop states w last. entries-none cs ts f pairs _ _ _ _ _ (w .taken))
+loop-holds c = (omega arith, λ to h l. h, refl, refl, λ cs ts f pairs stop states w last. entries-none cs ts f pairs _ _ _ _ _ (w .taken))
 
 weigh-first-requires : tie.Need-weigh-first-requires Inv-loop μ-loop
 weigh-first-requires c κs =
     let in-loop = c .before .before in
+    let inv = in-loop .before .loop .inv in
     let s = start (in-loop .before) in
-    (s .pre .0, in-loop .loop-test .taken, s .pre .1, omega (arith, in-loop .loop-test .taken, s .pre .2, in-loop .before .loop .inv .2))
+    (s .pre .0, in-loop .loop-test .taken, s .pre .1, s .pre .2, omega (arith, s .pre .3, inv .2), omega (arith, in-loop .loop-test .taken, s .pre .4, inv .3))
 
 loop-again : tie.Need-loop-again Inv-loop μ-loop
 loop-again c =
@@ -50,17 +51,18 @@ loop-again c =
     let below = in-loop .loop-test .taken in (
       omega (arith, loop .inv .0),
       λ to h l. omega (arith, below, l),
-      c .before .table .given ∙ loop .inv .2,
+      c .before .before .before .extras .given ∙ loop .inv .2,
+      c .before .table .given ∙ loop .inv .3,
       λ cs ts f pairs stop states w last.
-          let old = loop .inv .3 cs ts f pairs stop states w last in
-          entries-turn cs ts f pairs _ _ (s .args .from) (loop .i) (s .args .table .now) (loop .table) _ _ _ (loop .inv .0) (omega (arith, below, s .pre .2)) (loop .inv .2) old
+          let old = loop .inv .4 cs ts f pairs stop states w last in
+          entries-turn cs ts f pairs _ _ (s .args .from) (loop .i) (s .args .table .now) (loop .table) _ _ _ (loop .inv .0) (omega (arith, below, s .pre .4)) (loop .inv .3) old
           (step .weigh-first .ensures .entry cs ts f pairs stop states (weighing-again w (w .width) (old .taken)) (omega (arith, below, w .width, last))),
     )
 
 returns : tie.Need-returns Inv-loop μ-loop
 returns c =
     let inv = c .before .loop .inv in
-    record { begin = inv .0; unit = omega (arith, c .loop-test .left); least = inv .1; entries = inv .3 }
+    record { begin = inv .0; unit = omega (arith, c .loop-test .left); least = inv .1; entries = inv .4 }
 
 pub weigh-start-spec : {M : Type 1} → statement M
 weigh-start-spec =
@@ -74,4 +76,5 @@ weigh-start-spec =
     (λ c. omega (arith, turn (written c) .loop-test .taken))
     loop-again
     (λ c. c .before .loop .inv .2)
+    (λ c. c .before .loop .inv .3)
     returns)
