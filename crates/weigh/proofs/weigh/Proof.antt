@@ -72,7 +72,7 @@ weigh-start-requires c κs =
     let g = s .pre .0 in (
       omega (arith, g .sizes .flops, g .circuit .flipFlops),
       omega (arith, g .sizes .flops, s .pre .2, s .pre .3, s .pre .8 .room),
-      s .pre .4,
+      omega (arith, s .pre .4),
       omega (arith, g .sizes .flops, s .pre .9),
       omega (arith, g .sizes .flops, s .pre .2, s .pre .5),
     )

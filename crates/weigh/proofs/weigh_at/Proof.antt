@@ -54,14 +54,14 @@ lane-extra-requires : tie.Need-lane-extra-requires
 lane-extra-requires c κs =
     let at = c .before in
     let s = start (at .before) in
-    (s .pre .0, s .pre .1, s .pre .3, omega (arith, s .pre .4 (unknown at)), row-before (s .args .count) (2 * s .args .m) (2 * s .args .m + 1) _ (omega arith) (room s))
+    (s .pre .0, omega (arith, s .pre .1, s .pre .2), s .pre .3, omega (arith, s .pre .4 (unknown at)), row-before (s .args .count) (2 * s .args .m) (2 * s .args .m + 1) _ (omega arith) (room s))
 
 lane-extra-requires-2 : tie.Need-lane-extra-requires-2
 lane-extra-requires-2 c κs =
     let after = c .before .before in
     let at = else (after .before) in
     let s = start (at .before) in
-    (s .pre .0, s .pre .1, s .pre .3, omega (arith, s .pre .4 (unknown at)), omega (arith, room s, after .extras .given))
+    (s .pre .0, omega (arith, s .pre .1, s .pre .2), s .pre .3, omega (arith, s .pre .4 (unknown at)), omega (arith, room s, after .extras .given))
 
 enter-requires : tie.Need-enter-requires
 enter-requires c κs =
