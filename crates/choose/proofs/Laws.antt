@@ -1,25 +1,30 @@
 -- Room, no records, and the promise.
-use mathlib.Core.Path.{_≡_, sym}
+use mathlib.Core.Path.{_≡_, refl, sym}
 use mathlib.Core.List.{List, []}
+use mathlib.Core.Option.{Option, none, some, orElse}
 use Prim.Native.Nat.{ℕ, _+_, _*_, _<_, _≤_}
 use native.Mathlib.Omega.{arith}
-use native.Mathlib.Nat.{mul-le-mul, mul-le-mul-left, mul-assoc}
+use native.Mathlib.Nat.{mul-le-mul-left, mul-assoc}
 use lib.ListN.{length}
 use Rattle.lists.proofs.Field.{overwritten-none}
-use Rattle.model.specs.Inputs.{N, I, F, O, L}
+use Rattle.model.specs.Inputs.{N, I, F, O, L, Fault}
 use Rattle.model.specs.Accepted.{ChooseReady}
 use Rattle.model.specs.Refusals.{Answer, workBytes}
-use Rattle.model.specs.Choose.{planBytes, chooseAnswer, chooseArea}
+use Rattle.model.specs.Grade.{Verdict, stage1, beforeStage5}
+use Rattle.model.specs.Choose.{planBytes, chosen, chooseAnswer, chooseArea}
 use Rattle.model.specs.Promises.{ChoosesWell}
+use Rattle.model.proofs.Choose.{chosen-decided}
 use Rattle.model.proofs.Theorems.{chosen-well}
 use Rattle.lanes.specs.Lane.{Room}
 use Rattle.circuit.specs.Table.{Tables}
 use Rattle.unit.specs.Unit.{MaskRoom}
 use Rattle.job.specs.Job.{JobOf}
 use Rattle.job.specs.declared.Job.{Job}
-use Rattle.run.specs.Run.{Runnable}
+use Rattle.run.proofs.Laws.{runnable-again}
+use Rattle.faults.specs.Given.{Blank}
+use Rattle.places.proofs.Laws.{runnable-given}
 use Rattle.pick.specs.Pick.{Records}
-use Rattle.choose.specs.Room.{JobRoom}
+use Rattle.choose.specs.Room.{Workable}
 
 -- number 13 asks for room enough for an entry a pair
 pub table-size : (c t : List ℕ) (work : ℕ) → workBytes c t ≤ work → 4 * (L c t * F c) ≤ work
@@ -38,47 +43,58 @@ pub records-as : {pairs pairs′ : List (ℕ × ℕ)} {old new : List ℕ} {r : 
 records-as e records = rw e records
 
 -- ---- room
-module _ {c t pins flops outs hits masks feed words state states list nout free merits extras : List ℕ} where
-  -- for so many lines, inputs, flip-flops, outputs and units
-  pub job-room : (lines inputs bits shown units : ℕ) → N c ≤ lines → I c ≤ inputs → F c ≤ bits → O c ≤ shown → L c t ≤ units
-      → 4 * lines ≤ length pins → 256 ≤ length flops → 256 ≤ length outs → lines ≤ length hits → length hits ≤ 65536 → MaskRoom masks
-      → Room inputs feed → Room lines words → Room bits state → units * bits ≤ length states → units * bits ≤ length list → units < length nout
-      → units * shown ≤ length free → units ≤ length merits → 24 * bits ≤ length extras
-      → JobRoom c t pins flops outs hits masks feed words state states list nout free merits extras
-  job-room lines inputs bits shown units n i f o u pin flop out hit few mask ins word st plain row count response merit pair = record {
-    pinRoom = omega arith;
-    flopRoom = flop;
-    outRoom = out;
-    hitRoom = omega arith;
+pub state-size : {c t : List ℕ} {j : Job} → JobOf c t j → j .units * j .flops ≡ L c t * F c
+state-size o = rw (o .units, o .flops)
+
+module _ {c t pins flops outs hits masks feed words state free states list nout merits extras : List ℕ} {job : Job} where
+  -- for so many lines, inputs, flip-flops and units, and for the job's tables
+  pub workable : {fs : List ℕ} {k work result : ℕ} (lines inputs bits units : ℕ) → ChooseReady c t fs k work result → JobOf c t job → Tables c pins flops outs → Blank hits masks
+      → N c ≤ lines → I c ≤ inputs → F c ≤ bits → L c t ≤ units → L c t * O c ≤ length free → L c t * F c ≤ length states → L c t * F c ≤ length list
+      → lines ≤ length hits → length hits ≤ 65536 → MaskRoom masks → Room inputs feed → Room lines words → Room bits state → units < length nout → units ≤ length merits → 24 * bits ≤ length extras
+      → Workable c t job pins flops outs hits masks feed words state free states list nout merits extras
+  workable lines inputs bits units ready of tables blank n i f u responses plain rows hit few mask ins word st count merit pair = record {
+    runs = record {
+      circuit = ready .inputs .circuit;
+      test = ready .inputs .test;
+      sizes = of;
+      tables = tables;
+      hitRoom = omega arith;
+      maskRoom = mask;
+      feedRoom = omega arith;
+      lineRoom = omega arith;
+      stateRoom = omega arith;
+    };
+    blank = blank;
     fewHits = few;
-    maskRoom = mask;
-    feedRoom = omega arith;
-    lineRoom = omega arith;
-    stateRoom = omega arith;
     noutRoom = omega arith;
+    pickRoom = record { responses = responses; plain = record { room = plain }; rows = record { room = rows }; units = omega arith; pairs = omega arith };
+  }
+
+  -- workable still, once faults were given and taken back, and inputs, words, states and two tables written over
+  pub workable-again : (hits′ masks′ feed′ words′ state′ free′ states′ : List ℕ) → Workable c t job pins flops outs hits masks feed words state free states list nout merits extras → Blank hits′ masks′
+      → length hits′ ≡ length hits → length masks′ ≡ length masks → length feed′ ≡ length feed → length words′ ≡ length words → length state′ ≡ length state → length free′ ≡ length free → length states′ ≡ length states
+      → Workable c t job pins flops outs hits′ masks′ feed′ words′ state′ free′ states′ list nout merits extras
+  workable-again hits′ masks′ feed′ words′ state′ free′ states′ room blank lines rows feeds lanes bits frees plains = record {
+    runs = runnable-again feed′ words′ state′ (runnable-given hits′ masks′ (room .runs) lines rows) feeds lanes bits;
+    blank = blank;
+    fewHits = omega (arith, room .fewHits);
+    noutRoom = room .noutRoom;
     pickRoom = record {
-      responses = omega (arith, mul-le-mul u o);
-      plain = record { room = omega (arith, mul-le-mul u f) };
-      rows = record { room = omega (arith, mul-le-mul u f) };
-      units = omega arith;
-      pairs = omega arith;
+      responses = omega (arith, room .pickRoom .responses);
+      plain = record { room = omega (arith, room .pickRoom .plain .room) };
+      rows = room .pickRoom .rows;
+      units = room .pickRoom .units;
+      pairs = room .pickRoom .pairs;
     };
   }
 
-  -- the engine runs in it, once the tables are listed
-  pub runs-in : {fs pins′ flops′ outs′ : List ℕ} {k work result : ℕ} {job : Job} → ChooseReady c t fs k work result → JobOf c t job → Tables c pins′ flops′ outs′
-      → JobRoom c t pins flops outs hits masks feed words state states list nout free merits extras → Runnable c t job pins′ flops′ outs′ hits masks feed words state
-  runs-in ready of tables room = record {
-    circuit = ready .inputs .circuit;
-    test = ready .inputs .test;
-    sizes = of;
-    tables = tables;
-    hitRoom = room .hitRoom;
-    maskRoom = room .maskRoom;
-    feedRoom = room .feedRoom;
-    lineRoom = room .lineRoom;
-    stateRoom = room .stateRoom;
-  }
+-- ---- a fault that stage 1 decides
+pub chosen-first : (c t : List ℕ) (f : Fault) (k : ℕ) → (stage1 c t f ≡ none → ⊥) → chosen c t f k ≡ []
+chosen-first c t f k met = decided (stage1 c t f) refl
+  where
+    decided : (o : Option Verdict) → stage1 c t f ≡ o → chosen c t f k ≡ []
+    decided none e = absurd (met e)
+    decided (some v) e = chosen-decided c t f k v (unfold beforeStage5 orElse in rw e)
 
 -- the promise, of an answer and an area that are the definitions'
 pub promised : (c t fs : List ℕ) (k work : ℕ) (old : List ℕ) (answer : Answer) (new : List ℕ) → answer ≡ chooseAnswer c t fs k work (length old) → new ≡ chooseArea c t fs k work old

@@ -2,31 +2,29 @@
 use mathlib.Core.List.{List}
 use Prim.Native.Nat.{ℕ, _*_, _<_, _≤_}
 use lib.ListN.{length}
-use Rattle.model.specs.Inputs.{N, I, F, L}
-use Rattle.lanes.specs.Lane.{Room}
-use Rattle.unit.specs.Unit.{MaskRoom}
+use Rattle.model.specs.Inputs.{L}
 use Rattle.job.specs.declared.Job.{Job}
+use Rattle.run.specs.Run.{Runnable}
+use Rattle.faults.specs.Given.{Blank}
 use Rattle.pick.specs.Pick.{PickRoom}
 
--- Of what a call works in: the tables of pins, flip-flops and outputs; the faults of the lanes; two words for each input, line and flip-flop; Nout of
--- every unit and behind the last; and what picking is lent.
-pub record JobRoom (c t pins flops outs hits masks feed words state states list nout free merits extras : List ℕ) : Type 0 where
-  pub pinRoom : 4 * N c ≤ length pins
-  pub flopRoom : 256 ≤ length flops
-  pub outRoom : 256 ≤ length outs
-  pub hitRoom : N c ≤ length hits
+-- What a call works in: tables and room for a run, with no fault in any lane; Nout of every unit and behind the last; and what picking is lent.
+pub record Workable (c t : List ℕ) (job : Job) (pins flops outs hits masks feed words state free states list nout merits extras : List ℕ) : Type 0 where
+  pub runs : Runnable c t job pins flops outs hits masks feed words state
+  pub blank : Blank hits masks
   pub fewHits : length hits ≤ 65536
-  pub maskRoom : MaskRoom masks
-  pub feedRoom : Room (I c) feed
-  pub lineRoom : Room (N c) words
-  pub stateRoom : Room (F c) state
   pub noutRoom : L c t < length nout
   pub pickRoom : PickRoom c t free states list merits extras
 
--- a job that short arrays have room for
-pub record Small (job : Job) : Type 0 where
-  pub lines : job .lines ≤ 256
-  pub inputs : job .inputs ≤ 64
+-- a job that the shortest arrays have room for
+pub record Short (job : Job) : Type 0 where
+  pub lines : job .lines ≤ 128
+  pub inputs : job .inputs ≤ 32
   pub flops : job .flops ≤ 32
-  pub outputs : job .outputs ≤ 64
-  pub units : job .units ≤ 64
+  pub outputs : job .outputs ≤ 32
+  pub units : job .units ≤ 16
+
+-- a job whose tables, of responses and of states, short arrays have room for
+pub record ShortTables (job : Job) : Type 0 where
+  pub states : job .units * job .flops ≤ 4096
+  pub responses : job .units * job .outputs ≤ 4096

@@ -9,7 +9,7 @@ use Rattle.lists.specs.Scan.{gather}
 use Rattle.lists.specs.Field.{overwritten, rowOf, Rows}
 use Rattle.lists.proofs.Field.{row-fits, rows-written}
 use Rattle.model.specs.Inputs.{F, O, L, Fault}
-use Rattle.model.specs.Simulation.{powerUp, stateAt, outputsAt, plainState, plainOutputs}
+use Rattle.model.specs.Simulation.{noFault, powerUp, stateAt, outputsAt, plainState, plainOutputs, freeOutputs}
 use Rattle.run.proofs.Laws.{length-outputs, length-state, length-powerUp}
 
 -- ---- an area that is written from place n on
@@ -60,3 +60,9 @@ module _ (c t : List ℕ) (f : Fault) where
   responses-behind n work end old en h e =
       let whole : drop (L c t * O c) (take n work ++ (end ++ drop (length work - n) (drop n work))) ≡ end = rw (← en) (written-end n work end h) in
       rw whole (response-rows end old e)
+
+-- the responses of the run of no fault
+pub free-rows : (c t table old : List ℕ) → table ≡ overwritten (gather (λ u. outputsAt c t noFault (powerUp c) u) (L c t)) old
+    → Rows (O c) (L c t) table (λ u. freeOutputs c t u)
+unfolding freeOutputs
+free-rows c t table old e = response-rows c t noFault table old e

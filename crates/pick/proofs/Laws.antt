@@ -10,9 +10,9 @@ use native.Mathlib.Nat.{mul-comm}
 use lib.Dec.{ltb}
 use lib.ListN.{getD, length, take, drop, length-append}
 use borrow.Author.Tests.{ne-eqb, lt-ltb, le-ltb, le-leb, lt-leb}
-use Rattle.lists.specs.Field.{bytes16, overwritten, rowOf}
+use Rattle.lists.specs.Field.{bytes16, overwritten}
 use Rattle.lists.proofs.Field.{overwritten-none, written-behind, row-fits}
-use Rattle.model.specs.Inputs.{F, O, L, Fault}
+use Rattle.model.specs.Inputs.{F, L, Fault}
 use Rattle.model.specs.Accepted.{ValidTest, ThreeValued}
 use Rattle.model.specs.Values.{X, isSpecified}
 use Rattle.lists.proofs.Tests.{by-test}
@@ -24,7 +24,7 @@ use Rattle.model.proofs.Best.{nextPair-takes}
 use Rattle.model.proofs.Choose.{length-plan, plan-more, bestPairs-more, bestPairs-stop}
 use Rattle.sequences.specs.Ends.{Taken}
 use Rattle.expand.proofs.Begin.{factor-some}
-use Rattle.expand.proofs.Place.{position, place-below, unit-inside, row-copied}
+use Rattle.expand.proofs.Place.{position, place-below, unit-inside}
 use Rattle.take.specs.Take.{Prepared}
 use Rattle.take.proofs.Taken.{taken-as}
 use Rattle.take.proofs.Tests.{outputs-as}
@@ -216,24 +216,12 @@ picked-next {c} {t} {f} {count} {reach} {m} {k} {u} {i} {r} {times} {extras} {ti
     }
 
 -- ---- what picking asks for, of a fault that stages 1 to 4 leave open
--- the fault-free responses, copied
-copied-ready : {c t work states list hits masks : List ℕ} {left : ℕ} {f : Fault} (n : ℕ) (free old : List ℕ) → Prepared c t work states list hits masks left f → free ≡ overwritten (take n work) old → n ≡ L c t * O c → n ≤ length work
-    → Prepared c t free states list hits masks left f
-copied-ready {c} {t} {work} n free old ready e all room = record {
-  stuck = ready .stuck;
-  fault = ready .fault;
-  plain = ready .plain;
-  frees = record { at = λ u h. ap (λ x. rowOf (O c) x u) e ∙ row-copied (O c) n u work old room (omega (arith, row-fits (O c) u (L c t) h)) ∙ ready .frees .at u h };
-  rows = ready .rows;
-  above = ready .above;
-}
-
-module _ {c t work states list hits masks counts merits : List ℕ} {left count reach : ℕ} (units : reach ≡ reachOf (L c t) left) (width : count ≡ F c) (set : best.MeritsSet reach count states counts merits) where
-  pub picking : (f : Fault) (n : ℕ) (free old : List ℕ) → Prepared c t work states list hits masks left f → ((u : ℕ) → u < L c t → ThreeValued (stateRow c t f u)) → ((u : ℕ) → u ≤ L c t → getD counts u 0 ≡ nout c t f u)
-      → free ≡ overwritten (take n work) old → n ≡ L c t * O c → n ≤ length work → Picking c t f free states list hits masks merits left reach
-  picking f n free old ready three nouts e all room =
+module _ {c t free states list hits masks counts merits : List ℕ} {left count reach : ℕ} (units : reach ≡ reachOf (L c t) left) (width : count ≡ F c) (set : best.MeritsSet reach count states counts merits) where
+  pub picking : (f : Fault) → Prepared c t free states list hits masks left f → ((u : ℕ) → u < L c t → ThreeValued (stateRow c t f u)) → ((u : ℕ) → u ≤ L c t → getD counts u 0 ≡ nout c t f u)
+      → Picking c t f free states list hits masks merits left reach
+  picking f ready three nouts =
       let few = reach-most (L c t) left reach units in record {
-        ready = copied-ready n free old ready e all room;
+        ready = ready;
         three = three;
         units = units;
         worth = set .right c t f width (record { at = λ u h. ready .plain .at u (omega arith) }) (λ u h. nouts u (omega arith));

@@ -3,7 +3,7 @@
 ghost use mathlib.Core.Path.{_≡_};
 ghost use Prim.Native.Nat.{_*_, _<_, _≤_};
 ghost use lib.ListN.{length};
-ghost use Rattle.model.specs.Inputs.{F, O, L};
+ghost use Rattle.model.specs.Inputs.{F, L};
 ghost use Rattle.best.specs.Best.{AtMost, mostNout, mostMerit};
 ghost use Rattle.run.specs.Run.{Runnable};
 ghost use Rattle.pick.specs.Pick.{reachOf, PickRoom, AllPicked, ChosenFrom};
@@ -120,11 +120,12 @@ fn pick_pairs(
     m
 }
 
-// The picks of a fault that stages 1 to 4 leave open. The fault-free responses leave the work area, which then holds the table of entries.
+// The picks of a fault that stages 1 to 4 leave open. The work area holds the table of entries.
 pub fn choose_pairs(
     c: &[u8],
     job: Job,
     t: &[u8],
+    free: &[u8],
     states: &[u8],
     list: &[u8],
     nout: &[usize],
@@ -140,20 +141,18 @@ pub fn choose_pairs(
     state: &mut [u64],
     units: &mut Trials,
     bits: &mut Trials,
-    free: &mut [u8],
     merits: &mut [usize],
     times: &mut Times,
     extras: &mut [u8],
     work: &mut [u8],
     result: &mut [u8],
 ) -> usize
-    requires { ⌜ (Runnable (now c) (now t) job (now pins) (now flops) (now outs) (now hits) (now masks) (now feed) (now words) (now state)) × (k ≤ 12) × (L (now c) (now t) * O (now c) ≤ length (now work)) × (4 * (L (now c) (now t) * F (now c)) ≤ length (now work))
+    requires { ⌜ (Runnable (now c) (now t) job (now pins) (now flops) (now outs) (now hits) (now masks) (now feed) (now words) (now state)) × (k ≤ 12) × (4 * (L (now c) (now t) * F (now c)) ≤ length (now work))
         × (4 * k ≤ length (now result)) × (AtMost mostNout (L (now c) (now t)) (now nout)) × (L (now c) (now t) ≤ length (now nout))
         × (PickRoom (now c) (now t) (now free) (now states) (now list) (now merits) (now extras)) ⌝ }
-    ensures { λ r. ⌜ ChosenFrom (now (c .entry)) (now (t .entry)) (now (work .entry)) (now (states .entry)) (now (list .entry)) (now (hits .entry)) (now (masks .entry)) (now (nout .entry)) left k
+    ensures { λ r. ⌜ ChosenFrom (now (c .entry)) (now (t .entry)) (now (free .entry)) (now (states .entry)) (now (list .entry)) (now (hits .entry)) (now (masks .entry)) (now (nout .entry)) left k
         (now (result .entry)) (now (result .exit)) r ⌝ }
 {
-    rows::copy_row(work, job.units * job.outputs, free);
     let reach = reached(job.units, left);
     best::set_merits(reach, job.flops, states, nout, merits);
     pick_pairs(

@@ -8,13 +8,12 @@ use native.Mathlib.Omega.{arith}
 use native.Mathlib.Nat.{mul-le-mul-left, mul-add}
 use borrow.Author.Tests.{lt-ltb, ltb-false}
 use lib.ListN.{length, getD}
-use Rattle.lists.specs.Scan.{gather}
-use Rattle.lists.specs.Field.{overwritten, Rows}
+use Rattle.lists.specs.Field.{Rows}
 use Rattle.lists.proofs.Scan.{firstPair-more}
 use Rattle.model.specs.Inputs.{N, F, O, L, Fault, faultCount, faultAt}
 use Rattle.model.specs.Refusals.{workBytes}
 use Rattle.model.specs.Accepted.{ValidCircuit, ValidInputs}
-use Rattle.model.specs.Simulation.{noFault, powerUp, outputsAt, freeOutputs}
+use Rattle.model.specs.Simulation.{noFault, powerUp, freeOutputs}
 use Rattle.model.specs.Expansion.{nout}
 use Rattle.model.specs.Grade.{placed, atPair, opposedAt, stage1, beforeStage5, grade}
 use Rattle.lanes.specs.Lane.{bit, Lane}
@@ -24,7 +23,6 @@ use Rattle.run.specs.Run.{Runnable}
 use Rattle.faults.specs.Given.{Batch, laneFault, Given}
 use Rattle.plain.specs.declared.Firsts.{Firsts}
 use Rattle.plain.specs.Places.{Places, placeAt}
-use Rattle.fault.proofs.Tables.{response-rows}
 use Rattle.places.specs.Found.{Faults, FirstOf, Found}
 
 -- ---- the fault-free responses
@@ -34,12 +32,6 @@ unfolding workBytes
 work-room c t work h =
     let twice : L c t * (O c + O c) ≤ L c t * (4 * O c + 16 * F c + 8) = mul-le-mul-left (L c t) (omega arith) in
     omega (arith, mul-add (L c t) (O c) (O c))
-
--- the run of no fault
-pub free-rows : (c t table old : List ℕ) → table ≡ overwritten (gather (λ u. outputsAt c t noFault (powerUp c) u) (L c t)) old
-    → Rows (O c) (L c t) table (λ u. freeOutputs c t u)
-unfolding freeOutputs
-free-rows c t table old e = response-rows c t noFault table old e
 
 -- ---- a batch
 -- runnable still, once faults have been given or taken back
@@ -82,6 +74,16 @@ module _ {c fs : List ℕ} {from count : ℕ} (faults : Faults c fs from count) 
         let stuck : Stuck lane hits masks (faultAt fs (from + lane)) = rw (lt-ltb lane count h) at (given .lanes lane (omega (arith, faults .few))) in
         record { place = places .first lane _ h stuck (powered lane) frees; left = places .left lane _ h stuck (powered lane) frees };
   }
+
+-- of a batch of one: lane 0 has the fault, lane 1 has none
+module _ {fs hits masks : List ℕ} {n : ℕ} (given : Given fs n 1 hits masks) where
+  pub lane-faulty : Stuck 0 hits masks (faultAt fs n)
+  unfolding laneFault
+  lane-faulty = let same : n + 0 ≡ n = omega arith in rw same at (given .lanes 0 (omega arith))
+
+  pub lane-free : Stuck 1 hits masks noFault
+  unfolding laneFault
+  lane-free = given .lanes 1 (omega arith)
 
 -- ---- what a lane has found, in the first so many units or in all
 module _ {c t : List ℕ} {f : Fault} {units : ℕ} {firsts : Firsts} {lane : ℕ} {times lines : List ℕ}

@@ -1,9 +1,11 @@
-// Stage 1 of Grade for a batch of faults, up to 64, one to a lane; and the fault-free responses that it looks at.
+// Stage 1 of Grade: for a batch of faults, up to 64, one to a lane, with the fault-free responses that it looks at; and for one fault, beside the
+// fault-free run.
 ghost use Prim.Native.Nat.{_+_, _*_, _≤_};
 ghost use lib.ListN.{length};
-ghost use Rattle.model.specs.Inputs.{O, L};
+ghost use Rattle.model.specs.Inputs.{F, O, L, faultAt};
 ghost use Rattle.faults.specs.Given.{Blank};
 ghost use Rattle.run.specs.Run.{Runnable};
+ghost use Rattle.fault.specs.Fault.{Beside};
 ghost use Rattle.stages.specs.Stages.{Standing};
 ghost use Rattle.places.specs.Found.{Faults, Found};
 use job::Job;
@@ -100,4 +102,51 @@ pub fn find_places(
     );
     faults::take_batch(fs, from, count, hits, masks);
     firsts
+}
+
+// The plain run of fault n of the list beside the fault-free one, in lanes 0 and 1: the responses of both and the fault's states. It ends where
+// stage 1 gives a verdict: whether it does.
+pub fn run_beside(
+    c: &[u8],
+    job: Job,
+    t: &[u8],
+    fs: &[u8],
+    n: usize,
+    pins: &[u16],
+    flops: &[usize],
+    outs: &[usize],
+    hits: &mut [u8],
+    masks: &mut [u64],
+    feed: &mut [u64],
+    words: &mut [u64],
+    state: &mut [u64],
+    free: &mut [u8],
+    faulty: &mut [u8],
+    states: &mut [u8],
+) -> bool
+    requires { ⌜ (Runnable (now c) (now t) job (now pins) (now flops) (now outs) (now hits) (now masks) (now feed) (now words) (now state)) × (Blank (now hits) (now masks)) × (length (now hits) ≤ 65536) × (Faults (now c) (now fs) n 1)
+        × (L (now c) (now t) * O (now c) ≤ length (now free)) × (L (now c) (now t) * O (now c) ≤ length (now faulty)) × (L (now c) (now t) * F (now c) ≤ length (now states)) ⌝ }
+    ensures { λ r. ⌜ (Blank (now (hits .exit)) (now (masks .exit)))
+        × (Beside (now (c .entry)) (now (t .entry)) (faultAt (now (fs .entry)) n) (now (free .exit)) (now (faulty .exit)) (now (states .exit)) r) ⌝ }
+{
+    faults::give_batch(fs, n, 1, hits, masks);
+    run::power_up(c, job.flops, state);
+    let opposed = fault::trace_beside(
+        c,
+        job,
+        t,
+        pins,
+        flops,
+        outs,
+        hits,
+        masks,
+        feed,
+        words,
+        state,
+        free,
+        faulty,
+        states,
+    );
+    faults::take_batch(fs, n, 1, hits, masks);
+    opposed
 }

@@ -9,11 +9,9 @@ use native.Mathlib.Nat.{mul-le-mul, mod-lt}
 use borrow.Author.Tests.{lt-ltb}
 use lib.ListN.{length, getD, drop, take}
 use Rattle.lists.specs.Scan.{_else_}
-use Rattle.lists.specs.Field.{Rows}
 use Rattle.lists.proofs.Field.{lent}
-use Rattle.model.specs.Inputs.{flipFlops, flipFlopLine, F, O, L, Fault}
+use Rattle.model.specs.Inputs.{flipFlops, flipFlopLine, F, L, Fault}
 use Rattle.model.specs.Accepted.{ValidCircuit, ValidTest, ValidFault}
-use Rattle.model.specs.Simulation.{plainOutputs, freeOutputs}
 use Rattle.model.specs.Expansion.{nout}
 use Rattle.model.specs.Grade.{Verdict, placed, stage1, stage2, stage3, stage4, beforeStage5, grade}
 use Rattle.model.specs.Sequences.{taken}
@@ -30,7 +28,7 @@ use Rattle.expand.specs.declared.Walk.{Walk}
 use Rattle.expand.specs.Expand.{Walked, Expanded}
 use Rattle.expand.proofs.Result.{stage3-met, stage3-none, stage4-met, stage4-none, list-rows}
 use Rattle.unit.specs.Unit.{Stuck}
-use Rattle.fault.specs.Fault.{Traced}
+use Rattle.fault.specs.Fault.{PlainTables, Traced}
 use Rattle.sequences.specs.Ends.{Taken, Lists}
 use Rattle.take.specs.Take.{Prepared}
 use Rattle.stages.specs.Stages.{Tabled, Standing, Deciding}
@@ -71,18 +69,24 @@ module _ {c t : List ℕ} {job : Job} {pins flops outs : List ℕ} (g : Tabled c
   pub pair-rows : (m n : ℕ) → m ≤ 12 → n ≡ 6144 → 2 * m * F c ≤ n
   pair-rows m n h e = let few : 2 * m ≤ 24 = omega arith in omega (arith, mul-le-mul few (g .circuit .flipFlops))
 
--- a work area of the same length, with the fault-free responses as before
-pub standing-again : {c t work : List ℕ} (work′ : List ℕ) → Standing c t work → length work′ ≡ length work → Rows (O c) (L c t) work′ (λ u. freeOutputs c t u) → Standing c t work′
-standing-again work′ s e frees = record { room = omega (arith, s .room); frees = frees }
-
--- the responses in the work area, those of the fault as they are lent
-pub responses-in : (job : Job) (work c t : List ℕ) (f : Fault) → JobOf c t job → Rows (O c) (L c t) work (λ u. freeOutputs c t u) → Rows (O c) (L c t) (drop (L c t * O c) work) (λ u. plainOutputs c t f u)
-    → Responses (job .units) (job .outputs) work (take (length work - job .units * job .outputs) (drop (job .units * job .outputs) work)) c t f
-responses-in job work c t f of frees shown = record {
+-- the responses of the plain run, by the job's sizes
+pub responses-in : (job : Job) (free faulty c t states : List ℕ) (f : Fault) → JobOf c t job → PlainTables c t free faulty states f → Responses (job .units) (job .outputs) free faulty c t f
+responses-in job free faulty c t states f of tables = record {
   all = of .units;
-  freeRows = rw (of .units, of .outputs) frees;
-  faultyRows = rw (lent work (job .units * job .outputs), of .units, of .outputs) shown;
+  freeRows = rw (of .units, of .outputs) (tables .frees);
+  faultyRows = rw (of .units, of .outputs) (tables .shown);
 }
+
+-- ---- the work area, once the fault that all lanes have is traced
+module _ {c t hits masks states work : List ℕ} (traced : Traced c t hits masks states work) (f : Fault) where
+  -- it begins with the fault-free responses as before
+  pub standing-again : {old : List ℕ} → Standing c t old → length work ≡ length old → Stuck 0 hits masks f → Standing c t work
+  standing-again s e stuck = record { room = omega (arith, s .room); frees = traced .tables f stuck .frees }
+
+  -- the tables of the plain run, the fault's responses as they are lent
+  pub tables-lent : {job : Job} → JobOf c t job → ((lane : ℕ) → lane < 64 → Stuck lane hits masks f)
+      → PlainTables c t work (take (length work - job .units * job .outputs) (drop (job .units * job .outputs) work)) states f
+  tables-lent {job = job} of stuck = rw (lent work (job .units * job .outputs), of .units, of .outputs) (traced .tables f (stuck 0 (omega arith)))
 
 else-last : (a b : Option Verdict) → a else b ≡ none → b ≡ none
 unfolding orElse
@@ -108,15 +112,15 @@ pub deciding-as : {walk : Walk} {none none′ e : ℕ} → none ≡ none′ → 
 deciding-as same d = rw same at d
 
 -- ---- stages 3 and 4, of a fault that stages 1 and 2 leave open
-module _ {c t states work hits masks list : List ℕ} {left e : ℕ} {walk : Walk} (f : Fault) (stuck : (lane : ℕ) → lane < 64 → Stuck lane hits masks f) (fault : ValidFault c f)
-    (open-first : stage1 c t f ≡ none) (open-second : stage2 c t f ≡ none) (traced : Traced c t hits masks states work) (above : OpenUnits c t f left)
-    (expanded : Expanded c t work states hits masks left list walk) (decides : Deciding walk (L c t * F c) e) where
+module _ {c t free faulty states list hits masks : List ℕ} {left e : ℕ} {walk : Walk} (f : Fault) (stuck : (lane : ℕ) → lane < 64 → Stuck lane hits masks f) (fault : ValidFault c f)
+    (open-first : stage1 c t f ≡ none) (open-second : stage2 c t f ≡ none) (tables : PlainTables c t free faulty states f) (above : OpenUnits c t f left)
+    (expanded : Expanded c t free states hits masks left list walk) (decides : Deciding walk (L c t * F c) e) where
   walked : Walked c t f (L c t * F c) (L c t * F c) list walk
   walked = expanded .walked f record {
     stuck = stuck;
     fault = fault;
-    plain = traced .plain f (stuck 0 (omega arith));
-    frees = traced .frees f (stuck 0 (omega arith));
+    plain = tables .plain;
+    frees = tables .frees;
     above = above;
   }
 
@@ -142,12 +146,12 @@ module _ {c t states work hits masks list : List ℕ} {left e : ℕ} {walk : Wal
     unfolding beforeStage5 orElse
     before-none = rw (open-first, open-second, stage3-none c t f list walk walked none-both, stage4-none c t f list walk walked none-both none-opposed)
 
-    pub prepared : Prepared c t work states list hits masks left f
+    pub prepared : Prepared c t free states list hits masks left f
     prepared = record {
       stuck = stuck;
       fault = fault;
-      plain = traced .plain f (stuck 0 (omega arith));
-      frees = traced .frees f (stuck 0 (omega arith));
+      plain = tables .plain;
+      frees = tables .frees;
       rows = list-rows c t f list walk walked none-both none-opposed;
       above = above;
     }

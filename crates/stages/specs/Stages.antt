@@ -3,17 +3,18 @@ use mathlib.Core.Path.{_≡_}
 use mathlib.Core.List.{List}
 use mathlib.Core.Option.{none, some}
 use Prim.Native.Nat.{ℕ, _+_, _*_, _/_, _%_, _<_, _≤_}
-use lib.ListN.{length, getD, drop}
+use lib.ListN.{length, getD}
 use Rattle.lists.specs.Field.{Rows}
 use Rattle.model.specs.Inputs.{flipFlopLine, F, O, L, Fault, planCount}
 use Rattle.model.specs.Accepted.{ValidCircuit, ValidTest, ValidFault}
-use Rattle.model.specs.Simulation.{plainOutputs, freeOutputs}
+use Rattle.model.specs.Simulation.{freeOutputs}
 use Rattle.model.specs.Expansion.{nout}
 use Rattle.model.specs.Grade.{placed, stage1, beforeStage5, grade}
 use Rattle.circuit.specs.Table.{Tables}
 use Rattle.job.specs.Job.{JobOf}
 use Rattle.job.specs.declared.Job.{Job}
 use Rattle.unit.specs.Unit.{Stuck}
+use Rattle.fault.specs.Fault.{PlainTables}
 use Rattle.pending.specs.Pending.{OpenUnits}
 use Rattle.expand.specs.declared.Walk.{Walk}
 use Rattle.record.specs.declared.Verdict.{Verdict}
@@ -44,12 +45,10 @@ pub record Standing (c t work : List ℕ) : Type 0 where
 pub record RowRoom (c t table : List ℕ) : Type 0 where
   pub room : L c t * F c ≤ length table
 
--- Nout of every unit, and that it is above 0 at the first r units: the work area holds the fault-free responses and behind them the fault's.
-pub record OpenFrom (job : Job) (work counts : List ℕ) (r : ℕ) : Type 0 where
-  pub units : (c t : List ℕ) (f : Fault) → JobOf c t job → Rows (O c) (L c t) work (λ u. freeOutputs c t u) → Rows (O c) (L c t) (drop (L c t * O c) work) (λ u. plainOutputs c t f u)
-      → OpenUnits c t f r
-  pub nout : (c t : List ℕ) (f : Fault) → JobOf c t job → Rows (O c) (L c t) work (λ u. freeOutputs c t u) → Rows (O c) (L c t) (drop (L c t * O c) work) (λ u. plainOutputs c t f u)
-      → (u : ℕ) → u ≤ L c t → getD counts u 0 ≡ nout c t f u
+-- Nout of every unit, and that it is above 0 at the first r units, from the responses without and with a fault
+pub record OpenFrom (job : Job) (free faulty counts : List ℕ) (r : ℕ) : Type 0 where
+  pub units : (c t states : List ℕ) (f : Fault) → JobOf c t job → PlainTables c t free faulty states f → OpenUnits c t f r
+  pub nout : (c t states : List ℕ) (f : Fault) → JobOf c t job → PlainTables c t free faulty states f → (u : ℕ) → u ≤ L c t → getD counts u 0 ≡ nout c t f u
 
 -- the pair of stage 3, or where there is none that of stage 4
 pub record Deciding (walk : Walk) (none r : ℕ) : Type 0 where
@@ -57,17 +56,17 @@ pub record Deciding (walk : Walk) (none r : ℕ) : Type 0 where
   pub fourth : none ≤ walk .both → r ≡ walk .opposed
 
 -- Of a fault that stage 1 leaves open: the verdict of stages 2 to 4, or that they give none, and then what stage 5 asks for.
-pub record Opened (c t : List ℕ) (f : Fault) (hits masks states list work : List ℕ) (m : Middle) : Type 0 where
+pub record Opened (c t : List ℕ) (f : Fault) (free states list hits masks : List ℕ) (m : Middle) : Type 0 where
   pub nothing : m .left ≡ 0 → beforeStage5 c t f ≡ some (placed 5 0 0)
   pub decided : 0 < m .left → m .pair < L c t * F c → beforeStage5 c t f ≡ some (placed 2 (m .pair / F c) (flipFlopLine c (m .pair % F c)))
   pub undecided : 0 < m .left → L c t * F c ≤ m .pair → beforeStage5 c t f ≡ none
-  pub ready : 0 < m .left → L c t * F c ≤ m .pair → Prepared c t work states list hits masks (m .left) f
+  pub ready : 0 < m .left → L c t * F c ≤ m .pair → Prepared c t free states list hits masks (m .left) f
 
--- the same of the fault that all lanes have; Nout of every unit; and the fault-free responses still stand in the work area
-pub record Middling (c t hits masks states list counts work : List ℕ) (m : Middle) : Type 0 where
-  pub opened : (f : Fault) → ((lane : ℕ) → lane < 64 → Stuck lane hits masks f) → ValidFault c f → stage1 c t f ≡ none → Opened c t f hits masks states list work m
-  pub nout : (f : Fault) → Stuck 0 hits masks f → (u : ℕ) → u ≤ L c t → getD counts u 0 ≡ nout c t f u
-  pub stands : (f : Fault) → Stuck 0 hits masks f → Standing c t work
+-- the same of the fault that all lanes have, by the tables of its plain run; and Nout of every unit
+pub record Middling (c t free faulty states list hits masks counts : List ℕ) (m : Middle) : Type 0 where
+  pub opened : (f : Fault) → ((lane : ℕ) → lane < 64 → Stuck lane hits masks f) → ValidFault c f → stage1 c t f ≡ none → PlainTables c t free faulty states f
+      → Opened c t f free states list hits masks m
+  pub nout : (f : Fault) → PlainTables c t free faulty states f → (u : ℕ) → u ≤ L c t → getD counts u 0 ≡ nout c t f u
 
 -- the verdict of the fault that all lanes have, if stage 1 gave none; the fault-free responses still stand in the work area
 pub record Graded (c t plan : List ℕ) (k : ℕ) (hits masks work : List ℕ) (r : Verdict) : Type 0 where

@@ -2,7 +2,7 @@
 // work.
 ghost use mathlib.Core.Option.{none};
 ghost use mathlib.Core.Path.{_≡_};
-ghost use Prim.Native.Nat.{_+_, _*_, _/_, _%_, _<_, _≤_};
+ghost use Prim.Native.Nat.{_*_, _/_, _%_, _<_, _≤_};
 ghost use lib.ListN.{length, getD};
 ghost use Rattle.model.specs.Inputs.{O, L, Fault};
 ghost use Rattle.model.specs.Grade.{placed, beforeStage5, grade};
@@ -47,13 +47,12 @@ pub struct Middle {
     pub pair: usize,
 }
 
-// How many units there are before the first with Nout 0, from the responses without and with the fault, which the work area holds.
-fn open_units(job: Job, work: &[u8], nout: &mut [usize]) -> usize
-    requires { ⌜ (job .units ≤ 1024) × (job .outputs ≤ 256) × (job .units * job .outputs + job .units * job .outputs ≤ length (now work)) × (job .units < length (now nout)) ⌝ }
-    ensures { λ r. ⌜ OpenFrom job (now (work .entry)) (now (nout .exit)) r ⌝ }
+// How many units there are before the first with Nout 0, from the responses without and with the fault.
+fn open_units(job: Job, free: &[u8], faulty: &[u8], nout: &mut [usize]) -> usize
+    requires { ⌜ (job .units ≤ 1024) × (job .outputs ≤ 256) × (job .units * job .outputs ≤ length (now free)) × (job .units * job .outputs ≤ length (now faulty)) × (job .units < length (now nout)) ⌝ }
+    ensures { λ r. ⌜ OpenFrom job (now (free .entry)) (now (faulty .entry)) (now (nout .exit)) r ⌝ }
 {
-    let at = job.units * job.outputs;
-    pending::outstanding(job.units, job.outputs, work, &work[at..], nout);
+    pending::outstanding(job.units, job.outputs, free, faulty, nout);
     pending::open_units(job.units, nout)
 }
 
@@ -164,11 +163,14 @@ fn last_stages(
     )
 }
 
-// Stages 2 to 4. The work area begins with the fault-free responses, and still does afterwards.
+// Stages 2 to 4, from the tables of the fault's plain run: the responses without and with the fault, and the states.
 pub fn middle_stages(
     c: &[u8],
     job: Job,
     t: &[u8],
+    free: &[u8],
+    faulty: &[u8],
+    states: &[u8],
     pins: &[u16],
     flops: &[usize],
     outs: &[usize],
@@ -180,31 +182,15 @@ pub fn middle_stages(
     units: &mut Trials,
     bits: &mut Trials,
     row: &mut Row,
-    states: &mut [u8],
     list: &mut [u8],
     nout: &mut [usize],
-    work: &mut [u8],
 ) -> Middle
-    requires { ⌜ (Runnable (now c) (now t) job (now pins) (now flops) (now outs) (now hits) (now masks) (now feed) (now words) (now state)) × (Standing (now c) (now t) (now work)) × (RowRoom (now c) (now t) (now states)) × (RowRoom (now c) (now t) (now list))
-        × (L (now c) (now t) < length (now nout)) ⌝ }
-    ensures { λ r. ⌜ Middling (now (c .entry)) (now (t .entry)) (now (hits .entry)) (now (masks .entry)) (now (states .exit)) (now (list .exit)) (now (nout .exit)) (now (work .exit)) r ⌝ }
+    requires { ⌜ (Runnable (now c) (now t) job (now pins) (now flops) (now outs) (now hits) (now masks) (now feed) (now words) (now state))
+        × (L (now c) (now t) * O (now c) ≤ length (now free)) × (L (now c) (now t) * O (now c) ≤ length (now faulty))
+        × (RowRoom (now c) (now t) (now states)) × (RowRoom (now c) (now t) (now list)) × (L (now c) (now t) < length (now nout)) ⌝ }
+    ensures { λ r. ⌜ Middling (now (c .entry)) (now (t .entry)) (now (free .entry)) (now (faulty .entry)) (now (states .entry)) (now (list .exit)) (now (hits .entry)) (now (masks .entry)) (now (nout .exit)) r ⌝ }
 {
-    fault::trace(
-        c,
-        job,
-        t,
-        pins,
-        flops,
-        outs,
-        hits,
-        masks,
-        feed,
-        words,
-        state,
-        states,
-        work,
-    );
-    let left = open_units(job, work, nout);
+    let left = open_units(job, free, faulty, nout);
     if left == 0 {
         return Middle { left, pair: 0 };
     }
@@ -212,7 +198,7 @@ pub fn middle_stages(
         c,
         job,
         t,
-        work,
+        free,
         states,
         left,
         pins,
@@ -232,7 +218,7 @@ pub fn middle_stages(
     Middle { left, pair }
 }
 
-// The verdict of stages 2 to 6.
+// The verdict of stages 2 to 6. The work area begins with the fault-free responses, and still does afterwards; behind them it then has the fault's.
 pub fn later_stages(
     c: &[u8],
     job: Job,
@@ -261,7 +247,7 @@ pub fn later_stages(
         × (RowRoom (now c) (now t) (now states)) × (RowRoom (now c) (now t) (now list)) ⌝ }
     ensures { λ r. ⌜ Graded (now (c .entry)) (now (t .entry)) (now (plan .entry)) k (now (hits .entry)) (now (masks .entry)) (now (work .exit)) r ⌝ }
 {
-    let middle = middle_stages(
+    fault::trace(
         c,
         job,
         t,
@@ -273,13 +259,31 @@ pub fn later_stages(
         feed,
         words,
         state,
+        states,
+        work,
+    );
+    let at = job.units * job.outputs;
+    let responses = &work[..];
+    let middle = middle_stages(
+        c,
+        job,
+        t,
+        responses,
+        &responses[at..],
+        states,
+        pins,
+        flops,
+        outs,
+        hits,
+        masks,
+        feed,
+        words,
+        state,
         units,
         bits,
         row,
-        states,
         list,
         nout,
-        work,
     );
     if middle.left == 0 {
         return record::placed(5, 0, 0);

@@ -63,9 +63,12 @@ returns c =
     let ts = s .args .t .now in
     let here = size s in
     let fits : s .args .job .units * s .args .job .outputs ≤ length (s .args .work .now) = omega (arith, here, s .pre .2) in record {
-      frees = λ f st. rows-before _ _ _ _ _ _ (run .write-run .ensures f (powerUp cs) st (power .power-up .ensures 0) (length-powerUp cs) (powerUp-three cs) .0) fits (omega (arith, here)) (s .pre .3);
-      shown = λ f st. responses-behind cs ts f _ _ _ _ here fits (run .write-run .ensures f (powerUp cs) st (power .power-up .ensures 0) (length-powerUp cs) (powerUp-three cs) .0);
-      plain = λ f st. state-rows cs ts f _ _ _ (s .pre .0 .sizes .flops) (run .write-run .ensures f (powerUp cs) st (power .power-up .ensures 0) (length-powerUp cs) (powerUp-three cs) .1);
+      tables = λ f st.
+          let wrote = run .write-run .ensures f (powerUp cs) st (power .power-up .ensures 0) (length-powerUp cs) (powerUp-three cs) in record {
+            frees = rows-before _ _ _ _ _ _ (wrote .0) fits (omega (arith, here)) (s .pre .3);
+            shown = responses-behind cs ts f _ _ _ _ here fits (wrote .0);
+            plain = state-rows cs ts f _ _ _ (s .pre .0 .sizes .flops) (wrote .1);
+          };
     }
 
 pub trace-spec : {M : Type 1} → statement M

@@ -1,10 +1,9 @@
 use mathlib.Core.Path.{_≡_, ap, _∙_}
 use Prim.Native.Nat.{_*_, _≤_}
 use native.Mathlib.Omega.{arith}
-use native.Mathlib.Nat.{mul-le-mul, mul-le-mul-left, mul-le-mul-right, mul-comm}
+use native.Mathlib.Nat.{mul-le-mul-left, mul-le-mul-right, mul-comm}
 use lib.ListN.{length}
 use Rattle.model.specs.Inputs.{F, L}
-use Rattle.job.proofs.Laws.{response-size}
 use Rattle.pick.specs.Pick.{reachOf}
 use Rattle.pick.proofs.Laws.{reach-some, reach-most, picking, at-most}
 use borrow.Author.Needs.{needs}
@@ -12,76 +11,61 @@ use Rattle.pick.proofs.choose_pairs.Statement.{statement}
 use Rattle.pick.proofs.choose_pairs.Tie as tie
 
 -- places
-abbrev start : tie.After-copy-row → tie.Start
-start c = c .before .before .before .before .before .before .before .before .before .before .before .before .before .before .before .before .before .before .before .before .before .before
+abbrev start : tie.After-reached → tie.Start
+start c = c .before .before .before .before .before .before .before .before .before .before .before .before .before .before .before .before .before .before .before
 
-abbrev copied : tie.After-reached → tie.After-copy-row
-copied c = c .before .before .before
-
-abbrev reach : tie.After-set-merits → tie.After-reached
-reach c = c .before .before
-
-abbrev begin : tie.After-reached → tie.Start
-begin c = start (copied c)
+abbrev reach : tie.After-merits → tie.After-reached
+reach c = c .before .before .before
 
 abbrev merited : tie.After-pick-pairs → tie.After-merits
-merited c = c .before .before .before .before .before .before .before .before .before .before .before .before .before
+merited c = c .before .before .before .before .before .before .before .before .before .before .before .before
 
-abbrev picked : tie.After-slice-known16 → tie.After-pick-pairs
+abbrev picked : tie.After-slice-known14 → tie.After-pick-pairs
 picked c = c .before .before .before .before .before .before .before .before .before .before .before .before
 
 -- so many units may have a pair
-units : (c : tie.After-reached) → let a = begin c .args in c .reached .result ≡ reachOf (L (a .c .now) (a .t .now)) (a .left)
-units c = c .reached .ensures ∙ ap (λ n. reachOf n (begin c .args .left)) (begin c .pre .0 .sizes .units)
+units : (c : tie.After-reached) → let a = start c .args in c .reached .result ≡ reachOf (L (a .c .now) (a .t .now)) (a .left)
+units c = c .reached .ensures ∙ ap (λ n. reachOf n (start c .args .left)) (start c .pre .0 .sizes .units)
 
-few : (c : tie.After-reached) → let a = begin c .args in c .reached .result ≤ L (a .c .now) (a .t .now)
+few : (c : tie.After-reached) → let a = start c .args in c .reached .result ≤ L (a .c .now) (a .t .now)
 few c = reach-most _ _ _ (units c)
 
 -- room for their entries
-entry-room : (c : tie.After-reached) → let a = begin c .args in 4 * (F (a .c .now) * c .reached .result) ≤ length (a .work .now)
+entry-room : (c : tie.After-reached) → let a = start c .args in 4 * (F (a .c .now) * c .reached .result) ≤ length (a .work .now)
 entry-room c =
-    let s = begin c in
+    let s = start c in
     let cs = s .args .c .now in
-    omega (arith, s .pre .3, mul-le-mul-left (F cs) (few c), mul-comm (F cs) (L cs (s .args .t .now)))
-
-mul-copy-row : tie.Need-mul-copy-row
-mul-copy-row c = let g = c .before .before .before .before .before .before .before .before .before .before .before .before .before .before .before .before .before .before .before .before .pre .0 in omega (arith, response-size (g .sizes), mul-le-mul (g .test .most) (g .circuit .outputs))
-
-copy-row-requires : tie.Need-copy-row-requires
-copy-row-requires c κs =
-    let pre = c .before .before .before .before .before .before .before .before .before .before .before .before .before .before .before .before .before .before .before .before .before .pre in
-    let size = response-size (pre .0 .sizes) in
-    (omega (arith, size, pre .2), omega (arith, size, pre .7 .responses))
+    omega (arith, s .pre .2, mul-le-mul-left (F cs) (few c), mul-comm (F cs) (L cs (s .args .t .now)))
 
 set-merits-requires : tie.Need-set-merits-requires
 set-merits-requires c κs =
     let at = c .before in
-    let s = begin at in
+    let s = start at in
     let g = s .pre .0 in
     let few-units = few at in (
       omega (arith, few-units, g .test .most),
       omega (arith, g .sizes .flops, g .circuit .flipFlops),
-      rw (g .sizes .flops) (omega (arith, mul-le-mul-right (F (s .args .c .now)) few-units, s .pre .7 .plain .room)),
-      omega (arith, few-units, s .pre .6),
-      omega (arith, few-units, s .pre .7 .units),
-      at-most _ _ _ _ few-units (s .pre .5),
+      rw (g .sizes .flops) (omega (arith, mul-le-mul-right (F (s .args .c .now)) few-units, s .pre .6 .plain .room)),
+      omega (arith, few-units, s .pre .5),
+      omega (arith, few-units, s .pre .6 .units),
+      at-most _ _ _ _ few-units (s .pre .4),
     )
 
 pick-pairs-requires : tie.Need-pick-pairs-requires
 pick-pairs-requires c κs =
-    let merits = c .before .before .before .before .before .before .before .before .before .before .before .before in
-    let at = reach (merits .before) in
-    let s = begin at in
-    let room = s .pre .7 in (
+    let merits = c .before .before .before .before .before .before .before .before .before .before .before in
+    let at = reach merits in
+    let s = start at in
+    let room = s .pre .6 in (
       s .pre .0,
       reach-some _ _ _ (units at) (s .pre .0 .test .some),
       few at,
       s .pre .1,
       entry-room at,
-      s .pre .4,
+      s .pre .3,
       merits .before .set-merits .ensures .small,
       record {
-        responses = omega (arith, room .responses, at .before .before .free .given);
+        responses = room .responses;
         plain = room .plain;
         rows = room .rows;
         units = omega (arith, room .units, merits .merits .given);
@@ -93,30 +77,22 @@ returns : tie.Need-returns
 returns c = record {
   records = λ f ready three nouts.
       let pick = picked c in
-      let merits = merited pick .before in
+      let merits = merited pick in
       let at = reach merits in
-      let copy = copied at in
-      let s = start copy in
-      let g = s .pre .0 in
-      pick .pick-pairs .ensures .records f
-      (picking (units at) (g .sizes .flops) (merits .set-merits .ensures) f _ _ _ ready three nouts (copy .copy-row .ensures) (response-size (g .sizes))
-      (omega (arith, response-size (g .sizes), s .pre .2)));
+      pick .pick-pairs .ensures .records f (picking (units at) (start at .pre .0 .sizes .flops) (merits .before .set-merits .ensures) f ready three nouts);
 }
 
 pub choose-pairs-spec : {M : Type 1} → statement M
 choose-pairs-spec =
     tie.close
     (tie.spec
-    mul-copy-row
-    copy-row-requires
-    (λ c κs. tt)
+    (λ c κs. search needs)
     set-merits-requires
     pick-pairs-requires
     (λ c. search needs)
     (λ c. search needs)
     (λ c. search needs)
-    (λ c. reach (merited (picked c) .before) .before .before .free .given)
-    (λ c. merited (picked c) .merits .given)
+    (λ c. search needs)
     (λ c. search needs)
     (λ c. search needs)
     (λ c. search needs)

@@ -4,7 +4,7 @@ use Rattle.model.specs.Simulation.{noFault, powerUp}
 use Rattle.model.proofs.ThreeValued.{powerUp-three}
 use Rattle.run.proofs.Laws.{runnable-again, length-powerUp}
 use Rattle.faults.proofs.Laws.{blank-stuck}
-use Rattle.places.proofs.Laws.{free-rows}
+use Rattle.fault.proofs.Tables.{free-rows}
 use borrow.Author.Needs.{needs}
 use Rattle.places.proofs.write_free.Statement.{statement}
 use Rattle.places.proofs.write_free.Tie as tie
