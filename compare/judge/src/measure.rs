@@ -80,19 +80,26 @@ pub fn measure() -> io::Result<()> {
     bench::JOBS.iter().try_for_each(|(name, make)| measure_calls(name, &make(), Areas::by_library, Areas::by_judge))
 }
 
-/// First that both answer alike, then the time of each.
-pub fn measure_calls(name: &str, job: &LentJob, by_library: Call, by_judge: Call) -> io::Result<()> {
+/// The least seconds of a call of the library and of one of this grader, made by turns for so many seconds, after a look
+/// that both answer alike.
+pub fn least_seconds(job: &LentJob, by_library: Call, by_judge: Call, seconds_spent: f64) -> io::Result<(f64, f64)> {
     let (mut library, mut judge) = (Areas::of(job), Areas::of(job));
     if by_library(&mut library, job) != by_judge(&mut judge, job) || library.result != judge.result {
-        return Err(io::Error::other(format!("{name}: the answers differ")));
+        return Err(io::Error::other("the answers differ"));
     }
     let (mut ours, mut theirs) = (f64::INFINITY, f64::INFINITY);
     let begun = Instant::now();
-    while begun.elapsed().as_secs_f64() < 2.0 || ours == f64::INFINITY {
+    while begun.elapsed().as_secs_f64() < seconds_spent || ours == f64::INFINITY {
         ours = ours.min(seconds(|| by_library(&mut library, job)));
         theirs = theirs.min(seconds(|| by_judge(&mut judge, job)));
     }
-    println!("{name}: {:.3} ms, library {:.3} ms, {:.1} times as fast", theirs * 1e3, ours * 1e3, theirs / ours);
+    Ok((ours, theirs))
+}
+
+/// Prints the milliseconds of both on a job of this name, and their ratio.
+pub fn measure_calls(name: &str, job: &LentJob, by_library: Call, by_judge: Call) -> io::Result<()> {
+    let (ours, theirs) = least_seconds(job, by_library, by_judge, 2.0)?;
+    println!("{name}: {:.4} ms, library {:.4} ms, {:.2} times as fast", theirs * 1e3, ours * 1e3, theirs / ours);
     Ok(())
 }
 

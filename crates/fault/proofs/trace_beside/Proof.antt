@@ -2,24 +2,25 @@
 use mathlib.Core.Path.{_≡_, refl, sym, ap, _∙_}
 use mathlib.Core.Bool.{true, false, true≢false}
 use mathlib.Core.List.{List}
-use Prim.Native.Nat.{ℕ, suc, _+_, _*_, _-_, _<_, _≤_}
+use Prim.Native.Nat.{ℕ, suc, _*_, _-_, _<_, _≤_}
 use native.Mathlib.Omega.{arith}
 use native.Mathlib.Decide.{decLe}
 use borrow.Author.Needs.{needs}
 use lib.ListN.{length, take}
 use Rattle.lists.specs.Scan.{gather}
 use Rattle.lists.specs.Field.{overwritten}
+use Rattle.lists.proofs.Scan.{gather-turn}
 use Rattle.lists.proofs.Field.{length-lent, written-behind}
-use Rattle.model.specs.Inputs.{F, O, L, inputsAt, Fault}
+use Rattle.model.specs.Inputs.{O, L, Fault}
 use Rattle.model.specs.Values.{someOppose}
-use Rattle.model.specs.Simulation.{noFault, powerUp, lineValues, outputs, stateAt, outputsAt, valuesAt, plainState, plainOutputs, freeOutputs}
+use Rattle.model.specs.Simulation.{noFault, powerUp, stateAt, outputsAt, plainOutputs, freeOutputs}
 use Rattle.model.proofs.Runs.{length-lineValues}
 use Rattle.model.proofs.ThreeValued.{powerUp-three, stateAt-three}
 use Rattle.lanes.specs.Lane.{Lane}
 use Rattle.unit.specs.Unit.{Stuck}
-use Rattle.run.proofs.Laws.{values-asked, next-asked, RowRoom, row-room, stuck-binary, values-three, state-turn, length-state, length-powerUp, length-responses, length-states, responses-turn, states-turn}
+use Rattle.run.proofs.Laws.{values-asked, next-asked, RowRoom, row-room, stuck-binary, state-turn, length-state, length-powerUp, length-responses, length-states, states-turn}
 use Rattle.fault.proofs.Tables.{response-rows, free-rows, state-rows}
-use Rattle.fault.proofs.First.{first-none, first-met}
+use Rattle.fault.proofs.First.{first-none, first-met, both-shown}
 use Rattle.fault.proofs.trace_beside.Statement.{statement}
 use Rattle.fault.proofs.trace_beside.Tie as tie
 
@@ -119,25 +120,15 @@ show-both-requires c κs =
     )
 
 returns : tie.Need-returns Inv-loop μ-loop
-unfolding freeOutputs plainOutputs outputsAt valuesAt
 returns c = λ f s g.
     let show = showed (c .before .before) in
     let words = worded show in
     let then = inside words in
     let loop = turn then .loop in
-    let begin = start (turn then) in
-    let cs = begin .args .c .now in
-    let ts = begin .args .t .now in
-    let pre = begin .pre .0 in
-    let u = loop .u in
-    let power = powerUp cs in
+    let pre = start (turn then) .pre .0 in
     let before = loop .inv .7 f s g in
-    let lane = valued words .values-at .ensures 0 f _ s (before .0) (length-state cs ts f power u (length-powerUp cs)) in
-    let free-lane = valued words .values-at .ensures 1 noFault _ g (before .1) (length-state cs ts noFault power u (length-powerUp cs)) in
-    let shows = show .show-both .ensures .at f noFault _ _ s g lane free-lane (length-lineValues cs f _ _) (length-lineValues cs noFault _ _)
-    (values-three cs ts f power u (stuck-binary cs _ _ _ f (pre .circuit) (pre .hitRoom) s) (pre .test) (powerUp-three cs))
-    (values-three cs ts noFault power u (stuck-binary cs _ _ _ noFault (pre .circuit) (pre .hitRoom) g) (pre .test) (powerUp-three cs)) in record {
-      met = λ _. first-met cs ts f u (omega (arith, then .if1 .taken, pre .sizes .units)) (sym (shows .2) ∙ c .if2 .taken);
+    let shows = both-shown f _ (pre .circuit) (pre .test) (pre .hitRoom) s g _ (before .0) (before .1) (valued words .values-at .ensures) (show .show-both .ensures) in record {
+      met = λ _. first-met _ _ f _ (omega (arith, then .if1 .taken, pre .sizes .units)) (sym (shows .2) ∙ c .if2 .taken);
       unmet = λ e. absurd (true≢false e);
       tables = λ e. absurd (true≢false e);
     }
@@ -162,7 +153,6 @@ add-u c =
     omega (arith, then .if1 .taken, pre .sizes .units, pre .test .most)
 
 loop-again : tie.Need-loop-again Inv-loop μ-loop
-unfolding freeOutputs plainOutputs outputsAt valuesAt
 loop-again c =
     let rows = last c in
     let faulty = stored rows in
@@ -185,24 +175,18 @@ loop-again c =
       omega (arith, rows .states .given, loop .inv .6),
       λ f s g.
           let before = loop .inv .7 f s g in
-          let binary = stuck-binary cs _ _ _ f (pre .circuit) (pre .hitRoom) s in
-          let free-binary = stuck-binary cs _ _ _ noFault (pre .circuit) (pre .hitRoom) g in
-          let vs = lineValues cs f (inputsAt cs ts u) (stateAt cs ts f power u) in
-          let ws = lineValues cs noFault (inputsAt cs ts u) (stateAt cs ts noFault power u) in
-          let lane = valued words .values-at .ensures 0 f _ s (before .0) (length-state cs ts f power u (length-powerUp cs)) in
-          let free-lane = valued words .values-at .ensures 1 noFault _ g (before .1) (length-state cs ts noFault power u (length-powerUp cs)) in
-          let long = length-lineValues cs f (inputsAt cs ts u) (stateAt cs ts f power u) in
-          let free-long = length-lineValues cs noFault (inputsAt cs ts u) (stateAt cs ts noFault power u) in
-          let shows = show .show-both .ensures .at f noFault vs ws s g lane free-lane long free-long
-          (values-three cs ts f power u binary (pre .test) (powerUp-three cs)) (values-three cs ts noFault power u free-binary (pre .test) (powerUp-three cs)) in (
-            rw (state-turn cs ts f power u) (stepped c .next-state .ensures 0 f vs s lane long),
-            rw (state-turn cs ts noFault power u) (stepped c .next-state .ensures 1 noFault ws g free-lane free-long),
-            rw (responses-turn cs ts noFault power u) (written-behind _ _ _ _ _ _ (before .2) (rows-long cs ts noFault _ _ (pre .sizes .outputs)) (shows .0)),
-            rw (responses-turn cs ts f power u) (written-behind _ _ _ _ _ _ (before .3) (rows-long cs ts f _ _ (pre .sizes .outputs)) (shows .1)),
+          let values = valued words .values-at .ensures in
+          let next = stepped c .next-state .ensures in
+          let shows = both-shown f u (pre .circuit) (pre .test) (pre .hitRoom) s g _ (before .0) (before .1) values (show .show-both .ensures) in
+          let long = length-state cs ts f power u (length-powerUp cs) in (
+            rw (state-turn cs ts f power u) (next 0 f _ s (values 0 f _ s (before .0) long) (length-lineValues cs f _ _)),
+            rw (state-turn cs ts noFault power u) (next 1 noFault _ g (values 1 noFault _ g (before .1) (length-state cs ts noFault power u (length-powerUp cs))) (length-lineValues cs noFault _ _)),
+            rw (gather-turn (λ u. outputsAt cs ts noFault power u) u) (written-behind _ _ _ _ _ _ (before .2) (rows-long cs ts noFault _ _ (pre .sizes .outputs)) (shows .0)),
+            rw (gather-turn (λ u. outputsAt cs ts f power u) u) (written-behind _ _ _ _ _ _ (before .3) (rows-long cs ts f _ _ (pre .sizes .outputs)) (shows .1)),
             rw (states-turn cs ts f power (begin .args .job .flops) u)
                 (written-behind _ _ _ _ _ _ (before .4) (length-states cs ts f power (begin .args .job .flops) u (length-powerUp cs) (omega (arith, pre .sizes .flops)))
-                (rows .before .write-state .ensures (stateAt cs ts f power u) (before .0) (omega (arith, length-state cs ts f power u (length-powerUp cs), pre .sizes .flops))
-                (stateAt-three cs f binary ts power u (pre .test .bytes) (powerUp-three cs)))),
+                (rows .before .write-state .ensures (stateAt cs ts f power u) (before .0) (omega (arith, long, pre .sizes .flops))
+                (stateAt-three cs f (stuck-binary cs _ _ _ f (pre .circuit) (pre .hitRoom) s) ts power u (pre .test .bytes) (powerUp-three cs)))),
             λ v h. elim (decLe (suc v) u) [
               | yes early ↦ before .5 v early
               | no late ↦ (let same : v ≡ u = omega arith in rw same (sym (shows .2) ∙ rows .before .before .before .before .if2 .left))
