@@ -1,24 +1,24 @@
 -- Picks one after another: what a pick changes, and where it ends.
 use mathlib.Core.Path.{_≡_, refl, sym, ap, _∙_}
-use mathlib.Core.Bool.{false}
+use mathlib.Core.Bool.{false, and-false}
 use mathlib.Core.List.{List, [], _∷_, _++_}
 use mathlib.Core.Option.{none, some}
-use Prim.Native.Nat.{ℕ, suc, _+_, _*_, _-_, _/_, _%_, _<_, _≤_}
+use Prim.Native.Nat.{ℕ, zero, suc, _+_, _*_, _-_, _/_, _%_, _<_, _≤_}
 use native.Mathlib.Omega.{arith}
 use native.Mathlib.Decide.{decLe}
 use native.Mathlib.Nat.{mul-comm}
 use lib.Dec.{ltb}
-use lib.ListN.{getD, length, take, drop, length-append}
-use borrow.Author.Tests.{ne-eqb, lt-ltb, le-ltb, le-leb, lt-leb}
+use lib.ListN.{getD, set, length, take, drop, replicate, length-append}
+use borrow.Author.Tests.{eq-eqb, ne-eqb, lt-ltb, le-ltb, le-leb, lt-leb}
 use Rattle.lists.specs.Field.{bytes16, overwritten}
 use Rattle.lists.proofs.Field.{overwritten-none, written-behind, row-fits}
 use Rattle.model.specs.Inputs.{F, L, Fault}
 use Rattle.model.specs.Accepted.{ValidTest, ThreeValued}
 use Rattle.model.specs.Values.{X, isSpecified}
-use Rattle.lists.proofs.Tests.{by-test}
-use Rattle.model.specs.Implication.{extra}
+use Rattle.lists.proofs.Tests.{by-test, by-eq}
+use Rattle.model.specs.Implication.{nothing, extra}
 use Rattle.model.specs.Expansion.{nout, stateRow}
-use Rattle.model.specs.Sequences.{outputsLeft, touches, takes, takeNext}
+use Rattle.model.specs.Sequences.{overlaps, outputsLeft, touches, takes, takeNext}
 use Rattle.model.specs.Choose.{nextPair, bestPairs, planBytes}
 use Rattle.model.proofs.Best.{nextPair-takes}
 use Rattle.model.proofs.Choose.{length-plan, plan-more, bestPairs-more, bestPairs-stop}
@@ -31,16 +31,10 @@ use Rattle.take.proofs.Tests.{outputs-as}
 use Rattle.best.specs.Weights.{entryOf, Weighed}
 use Rattle.best.specs.Best as best
 use Rattle.weigh.specs.Weigh.{Weighing, WeighedFrom}
-use Rattle.pick.specs.Pick.{reachOf, Picking, PickedTo, Records}
+use Rattle.pick.specs.Pick.{reachOf, Touched, Picking, PickedTo, Records}
+use Rattle.pick.specs.declared.Span.{Span}
 
 -- ---- how many units may have a pair
-pub reach-some : (units left reach : ℕ) → reach ≡ reachOf units left → 0 < units → 0 < reach
-unfolding reachOf
-reach-some units left reach e wide = elim (decLe (suc left) units) [
-  | yes h ↦ (let is : reach ≡ left + 1 = e ∙ rw (lt-ltb left units h) in omega arith)
-  | no h ↦ (let is : reach ≡ units = e ∙ rw (le-ltb left units (omega arith)) in omega arith)
-]
-
 pub reach-most : (units left reach : ℕ) → reach ≡ reachOf units left → reach ≤ units
 unfolding reachOf
 reach-most units left reach e = elim (decLe (suc left) units) [
@@ -90,38 +84,74 @@ module _ {c t : List ℕ} {f : Fault} {free states list hits masks merits : List
       below : (e : ℕ) → e < F c * reach → e / F c < reach
       below e h = unit-inside (F c) reach e (factor-some (F c) reach e h) (omega (arith, mul-comm (F c) reach))
 
--- ---- a pick touches nothing at other units
-module _ (c t : List ℕ) (f : Fault) where
-  touches-elsewhere : (pairs : List (ℕ × ℕ)) (u i v : ℕ) (new : List ℕ) → (u ≡ v → ⊥) → touches c t f (pairs ++ ((u, i) ∷ [])) v new ≡ touches c t f pairs v new
-  unfolding touches
-  touches-elsewhere [] u i v new n = rw (ne-eqb u v n)
-  touches-elsewhere (q ∷ pairs) u i v new n = rw (touches-elsewhere pairs u i v new n)
+-- ---- a row that says nothing overlaps no other, nor do two that say one bit each, of different flip-flops
+open-left : (n : ℕ) (row : List ℕ) → overlaps (replicate n X) row ≡ false
+unfolding overlaps
+open-left zero row = refl
+open-left (suc n) [] = refl
+open-left (suc n) (b ∷ row) = open-left n row
 
-  pub entry-elsewhere : (pairs : List (ℕ × ℕ)) (u i v j : ℕ) → (u ≡ v → ⊥) → entryOf c t f (pairs ++ ((u, i) ∷ [])) v j ≡ entryOf c t f pairs v j
+open-right : (n : ℕ) (row : List ℕ) → overlaps row (replicate n X) ≡ false
+unfolding overlaps
+open-right n [] = refl
+open-right zero (a ∷ row) = refl
+open-right (suc n) (a ∷ row) = rw (and-false (isSpecified a)) (open-right n row)
+
+bits-apart : (n i j α β : ℕ) → (i ≡ j → ⊥) → overlaps (set (replicate n X) j α) (set (replicate n X) i β) ≡ false
+unfolding overlaps
+bits-apart zero i j α β other = refl
+bits-apart (suc n) zero zero α β other = absurd (other refl)
+bits-apart (suc n) zero (suc j) α β other = open-right n (set (replicate n X) j α)
+bits-apart (suc n) (suc i) zero α β other = rw (and-false (isSpecified α)) (open-left n (set (replicate n X) i β))
+bits-apart (suc n) (suc i) (suc j) α β other = bits-apart n i j α β (λ q. other (ap suc q))
+
+-- ---- what a pick touches
+module _ (c t : List ℕ) (f : Fault) where
+  -- no row that its extras overlap nowhere
+  touches-apart : (pairs : List (ℕ × ℕ)) (u i v : ℕ) (new : List ℕ) → ((β : ℕ) → u ≡ v → overlaps new (extra c t f v i β) ≡ false)
+      → touches c t f (pairs ++ ((u, i) ∷ [])) v new ≡ touches c t f pairs v new
+  unfolding touches
+  touches-apart [] u i v new apart = by-eq u v (λ q. rw (eq-eqb u v q, apart 0 q, apart 1 q)) (λ n. rw (ne-eqb u v n))
+  touches-apart (q ∷ pairs) u i v new apart = rw (touches-apart pairs u i v new apart)
+
+  entry-apart : (pairs : List (ℕ × ℕ)) (u i v j : ℕ) → ((α β : ℕ) → u ≡ v → overlaps (extra c t f v j α) (extra c t f v i β) ≡ false)
+      → entryOf c t f (pairs ++ ((u, i) ∷ [])) v j ≡ entryOf c t f pairs v j
   unfolding entryOf takes
-  entry-elsewhere pairs u i v j n = rw (touches-elsewhere pairs u i v (extra c t f v j 0) n, touches-elsewhere pairs u i v (extra c t f v j 1) n)
+  entry-apart pairs u i v j apart = rw (touches-apart pairs u i v (extra c t f v j 0) (apart 0), touches-apart pairs u i v (extra c t f v j 1) (apart 1))
 
   -- so the entries of other units stay
-  weighed-elsewhere : (pairs : List (ℕ × ℕ)) (u i reach from to : ℕ) (table : List ℕ) → Weighed c t f pairs 0 (F c * reach) table → to ≤ F c * reach
-      → ((e : ℕ) → from ≤ e → e < to → u ≡ e / F c → ⊥) → Weighed c t f (pairs ++ ((u, i) ∷ [])) from to table
-  weighed-elsewhere pairs u i reach from to table old inside other = record {
-    at = λ e h l. old .at e (omega arith) (omega arith) ∙ sym (entry-elsewhere pairs u i (e / F c) (e % F c) (other e h l));
-  }
+  pub entry-elsewhere : (pairs : List (ℕ × ℕ)) (u i v j : ℕ) → (u ≡ v → ⊥) → entryOf c t f (pairs ++ ((u, i) ∷ [])) v j ≡ entryOf c t f pairs v j
+  entry-elsewhere pairs u i v j n = entry-apart pairs u i v j (λ α β q. absurd (n q))
 
-  -- of the table without the entries of unit u, those before it
-  weighed-before : (pairs : List (ℕ × ℕ)) (u i reach : ℕ) (table : List ℕ) → Weighed c t f pairs 0 (F c * reach) table → u < reach
-      → Weighed c t f (pairs ++ ((u, i) ∷ [])) 0 (F c * u) table
-  weighed-before pairs u i reach table old below =
-      weighed-elsewhere pairs u i reach 0 (F c * u) table old (omega (arith, row-fits (F c) u reach below, mul-comm (F c) reach))
-      (λ e h l q. let at : F c * u ≡ F c * (e / F c) = ap (λ x. F c * x) q in (let z : ⊥ = omega (arith, position (F c) e) in z))
+  -- and at unit 0 those of other flip-flops
+  pub entry-beside : (pairs : List (ℕ × ℕ)) (i j : ℕ) → (i ≡ j → ⊥) → entryOf c t f (pairs ++ ((0, i) ∷ [])) 0 j ≡ entryOf c t f pairs 0 j
+  unfolding extra nothing
+  entry-beside pairs i j n = entry-apart pairs 0 i 0 j (λ α β q. bits-apart (F c) i j α β n)
 
-  -- and those behind it
-  weighed-behind : (pairs : List (ℕ × ℕ)) (u i reach : ℕ) (table : List ℕ) → Weighed c t f pairs 0 (F c * reach) table
-      → Weighed c t f (pairs ++ ((u, i) ∷ [])) (F c * u + F c) (F c * reach) table
-  weighed-behind pairs u i reach table old =
-      weighed-elsewhere pairs u i reach (F c * u + F c) (F c * reach) table old (omega arith)
-      (λ e h l q. let at : F c * u ≡ F c * (e / F c) = ap (λ x. F c * x) q in
-      (let z : ⊥ = omega (arith, position (F c) e, place-below (F c) e (factor-some (F c) reach e l)) in z))
+  -- the entries outside of what a pick touches stay
+  module _ (pairs : List (ℕ × ℕ)) (u i reach : ℕ) (span : Span) (touched : Touched (F c) u i span) where
+    entry-outside : (e : ℕ) → 0 < F c → (span .from ≤ e → e < span .to → ⊥) → entryOf c t f (pairs ++ ((u, i) ∷ [])) (e / F c) (e % F c) ≡ entryOf c t f pairs (e / F c) (e % F c)
+    entry-outside e wide outside =
+        by-eq u (e / F c) (λ q. by-eq u 0 (beside q) (λ n. absurd (at-unit q (omega arith)))) (entry-elsewhere pairs u i (e / F c) (e % F c))
+      where
+        place : u ≡ e / F c → e ≡ F c * u + e % F c
+        place q = rw q (position (F c) e)
+
+        beside : u ≡ e / F c → u ≡ 0 → entryOf c t f (pairs ++ ((u, i) ∷ [])) (e / F c) (e % F c) ≡ entryOf c t f pairs (e / F c) (e % F c)
+        beside q z =
+            let low : e ≡ F c * 0 + e % F c = rw z at (place q) in
+            rw (← q, z) (entry-beside pairs i (e % F c) (λ same. outside (omega (arith, touched .own z .0)) (omega (arith, touched .own z .1))))
+
+        at-unit : u ≡ e / F c → 0 < u → ⊥
+        at-unit q late = outside (omega (arith, touched .unit late .0, place q)) (omega (arith, touched .unit late .1, place q, place-below (F c) e wide))
+
+    weighed-outside : (from to : ℕ) (table : List ℕ) → Weighed c t f pairs 0 (F c * reach) table → to ≤ F c * reach
+        → ((e : ℕ) → from ≤ e → e < to → span .from ≤ e → e < span .to → ⊥) → Weighed c t f (pairs ++ ((u, i) ∷ [])) from to table
+    weighed-outside from to table old inside outside = record {
+      at = λ e h l.
+          let below : e < F c * reach = omega arith in
+          old .at e (omega arith) below ∙ sym (entry-outside e (factor-some (F c) reach e below) (outside e h l));
+    }
 
   -- ---- one pick more
   module _ (m k : ℕ) (u i : ℕ) (next : nextPair c t f (bestPairs c t f m) ≡ some (u, i)) where
@@ -201,19 +231,29 @@ module _ {c t : List ℕ} {f : Fault} {free states list hits masks merits : List
       }
 
 -- ---- one pick more
-pub picked-next : {c t : List ℕ} {f : Fault} {count reach m k u i r : ℕ} {times extras times′ extras′ table old area end : List ℕ}
-    → count ≡ F c → PickedTo c t f reach 0 0 m times extras table old area → nextPair c t f (bestPairs c t f m) ≡ some (u, i) → u < reach → m < k
+pub picked-next : {c t : List ℕ} {f : Fault} {count reach m k u i r : ℕ} {times extras times′ extras′ table old area end : List ℕ} {span : Span}
+    → count ≡ F c → PickedTo c t f reach 0 0 m times extras table old area → nextPair c t f (bestPairs c t f m) ≡ some (u, i) → u < reach → m < k → Touched count u i span
     → Taken c t f (takeNext c t f k (bestPairs c t f m) (u, i)) r times′ extras′
     → end ≡ overwritten (bytes16 u ++ bytes16 i) (take (length area - 4 * m) (drop (4 * m) area))
-    → PickedTo c t f reach (count * u) (count * u + count) (m + 1) times′ extras′ table old
+    → PickedTo c t f reach (span .from) (span .to) (m + 1) times′ extras′ table old
     (take (4 * m) area ++ (end ++ drop (length area - 4 * m) (drop (4 * m) area)))
-picked-next {c} {t} {f} {count} {reach} {m} {k} {u} {i} {r} {times} {extras} {times′} {extras′} {table} {old} {area} {end}
-    width done next below more took written = record {
+picked-next {c} {t} {f} {count} {reach} {m} {k} {u} {i} {r} {times} {extras} {times′} {extras′} {table} {old} {area} {end} {span}
+    width done next below more touched took written = record {
       taken = taken-next c t f m k u i next times extras times′ extras′ r more (done .taken) took;
-      before = rw (width, bestPairs-more c t f m (u, i) next) (weighed-before c t f (bestPairs c t f m) u i reach table (done .behind) below);
-      behind = rw (width, bestPairs-more c t f m (u, i) next) (weighed-behind c t f (bestPairs c t f m) u i reach table (done .behind));
+      before = rw (bestPairs-more c t f m (u, i) next) (kept 0 (span .from) (omega (arith, own .order, last)) (λ e h l g o. omega arith));
+      behind = rw (bestPairs-more c t f m (u, i) next) (kept (span .to) (F c * reach) (omega arith) (λ e h l g o. omega arith));
       records = records-next c t f m k u i next old area end (done .taken .count) (done .records) written;
     }
+  where
+    own : Touched (F c) u i span
+    own = rw width at touched
+
+    last : span .to ≤ F c * reach
+    last = omega (arith, own .last, row-fits (F c) u reach below, mul-comm (F c) reach)
+
+    kept : (from to : ℕ) → to ≤ F c * reach → ((e : ℕ) → from ≤ e → e < to → span .from ≤ e → e < span .to → ⊥)
+        → Weighed c t f (bestPairs c t f m ++ ((u, i) ∷ [])) from to table
+    kept from to = weighed-outside c t f (bestPairs c t f m) u i reach span own from to table (done .behind)
 
 -- ---- what picking asks for, of a fault that stages 1 to 4 leave open
 module _ {c t free states list hits masks counts merits : List ℕ} {left count reach : ℕ} (units : reach ≡ reachOf (L c t) left) (width : count ≡ F c) (set : best.MeritsSet reach count states counts merits) where

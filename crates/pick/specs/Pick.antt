@@ -15,10 +15,18 @@ use Rattle.take.specs.Take.{Prepared}
 use Rattle.stages.specs.Stages.{RowRoom}
 use Rattle.best.specs.Weights.{Weighed}
 use Rattle.best.specs.Best.{Merits}
+use Rattle.pick.specs.declared.Span.{Span}
 
 -- So many units may have a pair that is taken: the first, and those behind a unit with Nout above 0.
 unfoldable pub reachOf : ℕ → ℕ → ℕ
 reachOf units left = cond (ltb left units) (left + 1) units
+
+-- the positions of the entries that a pick of (u, i) may change: at unit 0 its own, and else those of its unit
+pub record Touched (count u i : ℕ) (span : Span) : Type 0 where
+  pub order : span .from ≤ span .to
+  pub last : span .to ≤ count * u + count
+  pub own : u ≡ 0 → (span .from ≡ i) × (span .to ≡ i + 1)
+  pub unit : 0 < u → (span .from ≡ count * u) × (span .to ≡ count * u + count)
 
 -- What picking is lent has room: the fault-free responses, plain states and state list, a merit of each unit, and the extras of 12 pairs.
 pub record PickRoom (c t free states list merits extras : List ℕ) : Type 0 where

@@ -1,12 +1,12 @@
 // Picking pairs for Choose, one after another, each the best of those that stage 5 would take next. Before the first pick all pairs are weighed, and
-// before another those of the unit of the pick before it.
+// before another those that the pick before it may touch.
 ghost use mathlib.Core.Path.{_≡_};
-ghost use Prim.Native.Nat.{_*_, _<_, _≤_};
+ghost use Prim.Native.Nat.{_+_, _*_, _<_, _≤_};
 ghost use lib.ListN.{length};
 ghost use Rattle.model.specs.Inputs.{F, L};
 ghost use Rattle.best.specs.Best.{AtMost, mostNout, mostMerit};
 ghost use Rattle.run.specs.Run.{Runnable};
-ghost use Rattle.pick.specs.Pick.{reachOf, PickRoom, AllPicked, ChosenFrom};
+ghost use Rattle.pick.specs.Pick.{reachOf, Touched, PickRoom, AllPicked, ChosenFrom};
 use job::Job;
 use stages::Times;
 use stages::Trials;
@@ -21,7 +21,28 @@ fn reached(units: usize, left: usize) -> usize
     units
 }
 
-// Up to k picks, each written as a plan record: how many there are. The entries from `from` to `to` are those that a pick is to weigh first.
+// Positions of the table, from one to another.
+pub struct Span {
+    pub from: usize,
+    pub to: usize,
+}
+
+// The entries that a pick of (u, i) may change: those of its unit, and at unit 0, where an extra is the pair's own bit, its own entry alone.
+fn touched(count: usize, u: usize, i: usize) -> Span
+    requires { ⌜ (i < count) × (count * u + count ≤ 262144) ⌝ }
+    ensures { λ r. ⌜ Touched count u i r ⌝ }
+{
+    if u == 0 {
+        return Span { from: i, to: i + 1 };
+    }
+    let from = count * u;
+    Span {
+        from,
+        to: from + count,
+    }
+}
+
+// Up to k picks, each written as a plan record: how many there are. The entries of `span` are those that a pick is to weigh first.
 fn pick_pairs(
     c: &[u8],
     job: Job,
@@ -48,15 +69,17 @@ fn pick_pairs(
     table: &mut [u8],
     result: &mut [u8],
 ) -> usize
-    requires { ⌜ (Runnable (now c) (now t) job (now pins) (now flops) (now outs) (now hits) (now masks) (now feed) (now words) (now state)) × (0 < reach) × (reach ≤ L (now c) (now t)) × (k ≤ 12)
+    requires { ⌜ (Runnable (now c) (now t) job (now pins) (now flops) (now outs) (now hits) (now masks) (now feed) (now words) (now state)) × (reach ≤ L (now c) (now t)) × (k ≤ 12)
         × (4 * (F (now c) * reach) ≤ length (now table)) × (4 * k ≤ length (now result)) × (AtMost mostMerit reach (now merits))
         × (PickRoom (now c) (now t) (now free) (now states) (now list) (now merits) (now extras)) ⌝ }
     ensures { λ r. ⌜ AllPicked (now (c .entry)) (now (t .entry)) (now (free .entry)) (now (states .entry)) (now (list .entry)) (now (hits .entry))
         (now (masks .entry)) (now (merits .entry)) left reach k (now (result .entry)) (now (result .exit)) r ⌝ }
 {
     let mut m: usize = 0;
-    let mut from: usize = 0;
-    let mut to = job.flops * reach;
+    let mut span = Span {
+        from: 0,
+        to: job.flops * reach,
+    };
     while m < k {
         weigh::weigh(
             c,
@@ -65,8 +88,8 @@ fn pick_pairs(
             free,
             states,
             list,
-            from,
-            to,
+            span.from,
+            span.to,
             m,
             pins,
             flops,
@@ -113,8 +136,7 @@ fn pick_pairs(
         );
         let at = 4 * m;
         record::put_two(&mut result[at..], best.unit, best.bit);
-        from = job.flops * best.unit;
-        to = from + job.flops;
+        span = touched(job.flops, best.unit, best.bit);
         m += 1;
     }
     m

@@ -75,12 +75,12 @@ pub record WeighedFirst (count : ℕ) (list : List ℕ) (i m : ℕ) (times extra
   pub entry : (c t : List ℕ) (f : Fault) (pairs : List (ℕ × ℕ)) (stop : ℕ) (states : List ℕ) → Weighing c t f pairs count stop states list m times extras → i < stop
       → EntryAt c t f pairs m times i table extras′ table′
 
--- the entries of unit 0 from position `from`; r is the position behind them
-pub record WeighedStart (count : ℕ) (list : List ℕ) (from m : ℕ) (times extras table extras′ table′ : List ℕ) (r : ℕ) : Type 0 where
+-- the entries of unit 0 from position `from` to `to`; r is the position behind them
+pub record WeighedStart (count : ℕ) (list : List ℕ) (from to m : ℕ) (times extras table extras′ table′ : List ℕ) (r : ℕ) : Type 0 where
   pub begin : from ≤ r
-  pub unit : count ≤ r
-  pub least : (to : ℕ) → from ≤ to → count ≤ to → r ≤ to
-  pub entries : (c t : List ℕ) (f : Fault) (pairs : List (ℕ × ℕ)) (stop : ℕ) (states : List ℕ) → Weighing c t f pairs count stop states list m times extras → F c ≤ stop
+  pub unit : r < to → count ≤ r
+  pub least : from ≤ to → r ≤ to
+  pub entries : (c t : List ℕ) (f : Fault) (pairs : List (ℕ × ℕ)) (stop : ℕ) (states : List ℕ) → Weighing c t f pairs count stop states list m times extras → to ≤ stop
       → Entries c t f pairs m times from r table extras′ table′
 
 -- the entries of the pairs between two positions

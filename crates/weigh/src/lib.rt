@@ -1,6 +1,5 @@
 // Weighing pairs for Choose: of each pair of a time unit and a flip-flop, whether stage 5 would take it next, and how many bits its two extras give.
-// That is kept in a table, so that a pick works out no implication: after it only the pairs of its own unit are weighed again, for a pair touches
-// nothing at other units.
+// That is kept in a table, so that a pick works out no implication: after it only the pairs that it may touch are weighed again.
 ghost use mathlib.Core.Path.{_≡_};
 ghost use mathlib.Core.Bool.{true};
 ghost use Prim.Native.Nat.{_+_, _*_, _/_, _<_, _≤_, min, max};
@@ -157,22 +156,24 @@ fn weigh_first(
     enter(count, list, 0, times, m, extras, &mut table[at..]);
 }
 
-// The entries of unit 0, whose pairs need no trial, from position `from`: the position behind them.
+// The entries of unit 0, whose pairs need no trial, from position `from` to `to`: the position behind them.
 fn weigh_start(
     count: usize,
     list: &[u8],
     from: usize,
+    to: usize,
     m: usize,
     times: &Times,
     extras: &mut [u8],
     table: &mut [u8],
 ) -> usize
-    requires { ⌜ (count ≤ 256) × (count ≤ length (now list)) × (m < 12) × (24 * count ≤ length (now extras)) × (4 * count ≤ length (now table)) ⌝ }
-    ensures { λ r. ⌜ WeighedStart count (now (list .entry)) from m (now (times .entry)) (now (extras .entry)) (now (table .entry))
+    requires { ⌜ (count ≤ 256) × (count ≤ length (now list)) × (m < 12) × (24 * count ≤ length (now extras)) × (4 * to ≤ length (now table)) ⌝ }
+    ensures { λ r. ⌜ WeighedStart count (now (list .entry)) from to m (now (times .entry)) (now (extras .entry)) (now (table .entry))
         (now (extras .exit)) (now (table .exit)) r ⌝ }
 {
+    let end = in_order(count, to).small;
     let mut i = from;
-    while i < count {
+    while i < end {
         weigh_first(count, list, i, m, times, extras, table);
         i += 1;
     }
@@ -205,12 +206,12 @@ pub fn weigh(
     table: &mut [u8],
 )
     requires { ⌜ (Runnable (now c) (now t) job (now pins) (now flops) (now outs) (now hits) (now masks) (now feed) (now words) (now state))
-        × (from ≤ to) × (F (now c) ≤ to) × (to ≤ L (now c) (now t) * F (now c)) × (m < 12) × (4 * to ≤ length (now table))
+        × (from ≤ to) × (to ≤ L (now c) (now t) * F (now c)) × (m < 12) × (4 * to ≤ length (now table))
         × (L (now c) (now t) * O (now c) ≤ length (now free)) × (RowRoom (now c) (now t) (now states)) × (RowRoom (now c) (now t) (now list)) × (24 * F (now c) ≤ length (now extras)) ⌝ }
     ensures { λ _. ⌜ WeighedFrom (now (c .entry)) (now (t .entry)) (now (free .entry)) (now (states .entry)) (now (list .entry)) (now (hits .entry))
         (now (masks .entry)) from to m (now (times .entry)) (now (extras .entry)) (now (table .entry)) (now (extras .exit)) (now (table .exit)) ⌝ }
 {
-    let mut at = weigh_start(job.flops, list, from, m, times, extras, table);
+    let mut at = weigh_start(job.flops, list, from, to, m, times, extras, table);
     while at < to {
         let batch = expand::fill(job.flops, list, at, to, units, bits);
         let marks = trial::try_pairs(

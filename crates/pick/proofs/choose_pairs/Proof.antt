@@ -5,7 +5,7 @@ use native.Mathlib.Nat.{mul-le-mul-left, mul-le-mul-right, mul-comm}
 use lib.ListN.{length}
 use Rattle.model.specs.Inputs.{F, L}
 use Rattle.pick.specs.Pick.{reachOf}
-use Rattle.pick.proofs.Laws.{reach-some, reach-most, picking, at-most}
+use Rattle.pick.proofs.Laws.{reach-most, picking, at-most}
 use borrow.Author.Needs.{needs}
 use Rattle.pick.proofs.choose_pairs.Statement.{statement}
 use Rattle.pick.proofs.choose_pairs.Tie as tie
@@ -58,7 +58,6 @@ pick-pairs-requires c κs =
     let s = start at in
     let room = s .pre .6 in (
       s .pre .0,
-      reach-some _ _ _ (units at) (s .pre .0 .test .some),
       few at,
       s .pre .1,
       entry-room at,

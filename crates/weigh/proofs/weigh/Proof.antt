@@ -3,6 +3,7 @@ use mathlib.Core.Path.{_≡_, refl, _∙_}
 use mathlib.Core.List.{List}
 use Prim.Native.Nat.{ℕ, _*_, _-_, _<_, _≤_}
 use native.Mathlib.Omega.{arith}
+use native.Mathlib.Nat.{mul-le-mul-right}
 use lib.ListN.{length}
 use Rattle.model.specs.Inputs.{F, L, Fault}
 use Rattle.run.proofs.Laws.{runnable-again}
@@ -71,10 +72,10 @@ weigh-start-requires c κs =
     let s = c .before .before .before .before .before .before .before .before .before .before .before .before .before .before .before .before .before in
     let g = s .pre .0 in (
       omega (arith, g .sizes .flops, g .circuit .flipFlops),
-      omega (arith, g .sizes .flops, s .pre .2, s .pre .3, s .pre .8 .room),
-      omega (arith, s .pre .4),
-      omega (arith, g .sizes .flops, s .pre .9),
-      omega (arith, g .sizes .flops, s .pre .2, s .pre .5),
+      omega (arith, g .sizes .flops, mul-le-mul-right (F (s .args .c .now)) (g .test .some), s .pre .7 .room),
+      omega (arith, s .pre .3),
+      omega (arith, g .sizes .flops, s .pre .8),
+      s .pre .4,
     )
 
 loop-holds : tie.Need-loop-holds Inv-loop μ-loop
@@ -82,7 +83,7 @@ loop-holds c =
     let first = c .before .before .before .before in
     let s = begin first in (
       omega arith,
-      first .weigh-start .ensures .least _ (s .pre .1) (omega (arith, s .pre .2, s .pre .0 .sizes .flops)),
+      first .weigh-start .ensures .least (s .pre .1),
       refl,
       refl,
       refl,
@@ -96,10 +97,12 @@ width : (c : tie.In-loop Inv-loop μ-loop) → 0 < start (c .before) .args .job 
 width c =
     let s = start (c .before) in
     let sizes = s .pre .0 .sizes in
-    factor-some (s .args .job .flops) (s .args .job .units) (c .before .loop .at) (omega (arith, c .loop-test .taken, s .pre .3, product-as _ _ _ _ (sizes .flops) (sizes .units)))
+    factor-some (s .args .job .flops) (s .args .job .units) (c .before .loop .at) (omega (arith, c .loop-test .taken, s .pre .2, product-as _ _ _ _ (sizes .flops) (sizes .units)))
 
 first : (c : tie.In-loop Inv-loop μ-loop) → start (c .before) .args .job .flops ≤ c .before .loop .at
-first c = omega (arith, c .before .loop .inv .0, begun (c .before) .weigh-start .ensures .unit)
+first c =
+    let up = c .before .loop .inv .0 in
+    omega (arith, up, begun (c .before) .weigh-start .ensures .unit (omega (arith, up, c .loop-test .taken)))
 
 fill-requires : tie.Need-fill-requires Inv-loop μ-loop
 fill-requires c κs =
@@ -108,14 +111,14 @@ fill-requires c κs =
       width in-loop,
       first in-loop,
       in-loop .loop-test .taken,
-      omega (arith, s .pre .3, s .pre .8 .room),
+      omega (arith, s .pre .2, s .pre .7 .room),
       omega (arith, c .before .fill-arg .given .0 .1),
       omega (arith, c .fill-arg2 .given .0 .1),
     )
 
 -- the word's last position is one of the table
 within : (c : tie.After-fill Inv-loop μ-loop) → let s = start (turn c .before) .args in c .fill .result .next ≤ L (s .c .now) (s .t .now) * F (s .c .now)
-within c = omega (arith, c .fill .ensures .2, start (turn c .before) .pre .3)
+within c = omega (arith, c .fill .ensures .2, start (turn c .before) .pre .2)
 
 try-pairs-requires : tie.Need-try-pairs-requires Inv-loop μ-loop
 try-pairs-requires c κs =
@@ -128,8 +131,8 @@ try-pairs-requires c κs =
     let g = s .pre .0 in (
       runnable-again _ _ _ g (inv .2) (inv .3) (inv .4),
       pairs-as (s .args .c .now) (s .args .t .now) _ _ _ _ _ _ _ (g .sizes .flops) (width in-loop) (first in-loop) (within fill) (fill .fill .ensures .0) (omega (arith, units .try-pairs-arg2 .given .0)) (omega (arith, bits .try-pairs-arg4 .given .0)),
-      s .pre .6,
-      s .pre .7 .room,
+      s .pre .5,
+      s .pre .6 .room,
     )
 
 next-state-requires : tie.Need-next-state-requires Inv-loop μ-loop
@@ -156,13 +159,13 @@ weigh-word-requires c κs =
     let g = s .pre .0 in (
       width in-loop,
       omega (arith, fill .fill .ensures .1),
+      unit-rows _ _ (g .sizes .flops) (width in-loop) (within fill) (s .pre .6),
       unit-rows _ _ (g .sizes .flops) (width in-loop) (within fill) (s .pre .7),
-      unit-rows _ _ (g .sizes .flops) (width in-loop) (within fill) (s .pre .8),
       omega (arith, g .sizes .flops, g .stateRoom, after .state2 .given, ran (after .before) .state .given, inv .4),
       omega (arith, fill .fill .ensures .0 .few, fill .fill .ensures .0 .all),
-      s .pre .4,
-      omega (arith, g .sizes .flops, s .pre .9, inv .5, kept (in-loop .before) .extras .given),
-      omega (arith, fill .fill .ensures .2, s .pre .5, inv .6, lent (in-loop .before) .table .given),
+      s .pre .3,
+      omega (arith, g .sizes .flops, s .pre .8, inv .5, kept (in-loop .before) .extras .given),
+      omega (arith, fill .fill .ensures .2, s .pre .4, inv .6, lent (in-loop .before) .table .given),
     )
 
 loop-again : tie.Need-loop-again Inv-loop μ-loop
@@ -190,7 +193,7 @@ loop-again c =
           (tried run .try-pairs .ensures) (show .next-state .ensures))
           (omega (arith, first in-loop, g .sizes .flops)) (omega (arith, fill .fill .ensures .2, last)))
           (loop .inv .0) (omega (arith, fill .fill .ensures .1)) (loop .inv .6)
-          (omega (arith, fill .fill .ensures .2, s .pre .5, lent (in-loop .before) .table .given)),
+          (omega (arith, fill .fill .ensures .2, s .pre .4, lent (in-loop .before) .table .given)),
     )
 
 returns : tie.Need-returns Inv-loop μ-loop
@@ -200,10 +203,10 @@ returns c = record {
       let first = begun (c .before) in
       let s = begin first in
       let end : loop .at ≡ s .args .to = omega (arith, loop .inv .1, c .loop-test .left) in
-      let old = first .weigh-start .ensures .entries _ _ f pairs stop _ (weighing-again w (s .pre .0 .sizes .flops) (w .taken)) (omega (arith, s .pre .2, last)) in
+      let old = first .weigh-start .ensures .entries _ _ f pairs stop _ (weighing-again w (s .pre .0 .sizes .flops) (w .taken)) last in
       rw (← end)
       (entries-join _ _ f pairs _ _ old (loop .inv .7 f pairs stop left ready (weighing-again w (w .width) (old .taken)) last)
-      (first .weigh-start .ensures .begin) (loop .inv .0) (lent (c .before) .table .given) (omega (arith, end, s .pre .5)));
+      (first .weigh-start .ensures .begin) (loop .inv .0) (lent (c .before) .table .given) (omega (arith, end, s .pre .4)));
 }
 
 pub weigh-spec : {M : Type 1} → statement M
