@@ -1,46 +1,22 @@
--- Room, no records, and the promise.
-use mathlib.Core.Path.{_≡_, refl, sym}
-use mathlib.Core.List.{List, []}
-use mathlib.Core.Option.{Option, none, some, orElse}
-use Prim.Native.Nat.{ℕ, _+_, _*_, _<_, _≤_}
+-- Room, and the promise.
+use mathlib.Core.Path.{_≡_}
+use mathlib.Core.List.{List}
+use Prim.Native.Nat.{ℕ, _*_, _<_, _≤_}
 use native.Mathlib.Omega.{arith}
-use native.Mathlib.Nat.{mul-le-mul-left, mul-assoc}
 use lib.ListN.{length}
-use Rattle.lists.proofs.Field.{overwritten-none}
-use Rattle.model.specs.Inputs.{N, I, F, O, L, Fault}
+use Rattle.model.specs.Inputs.{N, I, F, O, L}
 use Rattle.model.specs.Accepted.{ChooseReady}
-use Rattle.model.specs.Refusals.{Answer, workBytes}
-use Rattle.model.specs.Grade.{Verdict, stage1, beforeStage5}
-use Rattle.model.specs.Choose.{planBytes, chosen, chooseAnswer, chooseArea}
+use Rattle.model.specs.Refusals.{Answer}
+use Rattle.model.specs.Choose.{chooseAnswer, chooseArea}
 use Rattle.model.specs.Promises.{ChoosesWell}
-use Rattle.model.proofs.Choose.{chosen-decided}
 use Rattle.model.proofs.Theorems.{chosen-well}
 use Rattle.lanes.specs.Lane.{Room}
 use Rattle.circuit.specs.Table.{Tables}
 use Rattle.unit.specs.Unit.{MaskRoom}
 use Rattle.job.specs.Job.{JobOf}
 use Rattle.job.specs.declared.Job.{Job}
-use Rattle.run.proofs.Laws.{runnable-again}
 use Rattle.faults.specs.Given.{Blank}
-use Rattle.places.proofs.Laws.{runnable-given}
-use Rattle.pick.specs.Pick.{Records}
-use Rattle.choose.specs.Room.{Workable}
-
--- number 13 asks for room enough for an entry a pair
-pub table-size : (c t : List ℕ) (work : ℕ) → workBytes c t ≤ work → 4 * (L c t * F c) ≤ work
-unfolding workBytes
-table-size c t work h =
-    let four : L c t * (F c * 4) ≤ L c t * (4 * O c + 16 * F c + 8) = mul-le-mul-left (L c t) (omega arith) in
-    omega (arith, mul-assoc (L c t) (F c) 4)
-
--- no records
-pub records-none : (pairs : List (ℕ × ℕ)) (area : List ℕ) → pairs ≡ [] → Records pairs area area 0
-unfolding planBytes
-records-none pairs area e = record { count = rw e; area = rw e (sym (overwritten-none area)) }
-
--- the same pairs by another name
-pub records-as : {pairs pairs′ : List (ℕ × ℕ)} {old new : List ℕ} {r : ℕ} → pairs′ ≡ pairs → Records pairs old new r → Records pairs′ old new r
-records-as e records = rw e records
+use Rattle.propose.specs.Room.{Workable}
 
 -- ---- room
 pub state-size : {c t : List ℕ} {j : Job} → JobOf c t j → j .units * j .flops ≡ L c t * F c
@@ -69,32 +45,6 @@ module _ {c t pins flops outs hits masks feed words state free states list nout 
     noutRoom = omega arith;
     pickRoom = record { responses = responses; plain = record { room = plain }; rows = record { room = rows }; units = omega arith; pairs = omega arith };
   }
-
-  -- workable still, once faults were given and taken back, and inputs, words, states and two tables written over
-  pub workable-again : (hits′ masks′ feed′ words′ state′ free′ states′ : List ℕ) → Workable c t job pins flops outs hits masks feed words state free states list nout merits extras → Blank hits′ masks′
-      → length hits′ ≡ length hits → length masks′ ≡ length masks → length feed′ ≡ length feed → length words′ ≡ length words → length state′ ≡ length state → length free′ ≡ length free → length states′ ≡ length states
-      → Workable c t job pins flops outs hits′ masks′ feed′ words′ state′ free′ states′ list nout merits extras
-  workable-again hits′ masks′ feed′ words′ state′ free′ states′ room blank lines rows feeds lanes bits frees plains = record {
-    runs = runnable-again feed′ words′ state′ (runnable-given hits′ masks′ (room .runs) lines rows) feeds lanes bits;
-    blank = blank;
-    fewHits = omega (arith, room .fewHits);
-    noutRoom = room .noutRoom;
-    pickRoom = record {
-      responses = omega (arith, room .pickRoom .responses);
-      plain = record { room = omega (arith, room .pickRoom .plain .room) };
-      rows = room .pickRoom .rows;
-      units = room .pickRoom .units;
-      pairs = room .pickRoom .pairs;
-    };
-  }
-
--- ---- a fault that stage 1 decides
-pub chosen-first : (c t : List ℕ) (f : Fault) (k : ℕ) → (stage1 c t f ≡ none → ⊥) → chosen c t f k ≡ []
-chosen-first c t f k met = decided (stage1 c t f) refl
-  where
-    decided : (o : Option Verdict) → stage1 c t f ≡ o → chosen c t f k ≡ []
-    decided none e = absurd (met e)
-    decided (some v) e = chosen-decided c t f k v (unfold beforeStage5 orElse in rw e)
 
 -- the promise, of an answer and an area that are the definitions'
 pub promised : (c t fs : List ℕ) (k work : ℕ) (old : List ℕ) (answer : Answer) (new : List ℕ) → answer ≡ chooseAnswer c t fs k work (length old) → new ≡ chooseArea c t fs k work old

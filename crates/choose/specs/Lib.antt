@@ -1,2 +1,2 @@
--- Room for a job.
+-- Which arrays have room for a job.
 pub mod Room

@@ -1,185 +1,18 @@
-// The call Choose: up to k pairs for a plan. The fault goes through stages 1 to 4 as in Grade; where they leave it open pairs are picked.
+// The call Choose: up to k pairs for a plan. What it works in is cleared first, so the arrays have one of three lengths, by the job.
 ghost use mathlib.Core.Bool.{true};
-ghost use mathlib.Core.Option.{none};
 ghost use mathlib.Core.Path.{_≡_};
 ghost use lib.ListN.{length};
 ghost use Rattle.model.specs.Inputs.{faultAt};
 ghost use Rattle.model.specs.Accepted.{ChooseReady};
 ghost use Rattle.model.specs.Refusals.{chooseRefusal, unlessRefused};
-ghost use Rattle.model.specs.Grade.{stage1};
 ghost use Rattle.model.specs.Choose.{chosen, chooseAnswer, chooseArea};
 ghost use Rattle.model.specs.Promises.{ChoosesWell};
 ghost use Rattle.job.specs.Job.{answerOf, JobOf};
-ghost use Rattle.fault.specs.Fault.{PlainTables};
 ghost use Rattle.pick.specs.Pick.{Records};
-ghost use Rattle.choose.specs.Room.{Workable, Short, ShortTables};
+ghost use Rattle.choose.specs.Room.{Short, ShortTables};
 use job::Job;
 use job::JobCheck;
 use job::Outcome;
-
-// The picks of the list's fault, which stage 1 leaves open, from the tables of its plain run, of which the work area has the fault's responses:
-// none where stages 2 to 4 give a verdict.
-fn choose_open(
-    c: &[u8],
-    job: Job,
-    t: &[u8],
-    fs: &[u8],
-    k: usize,
-    pins: &[u16],
-    flops: &[usize],
-    outs: &[usize],
-    hits: &mut [u8],
-    masks: &mut [u64],
-    feed: &mut [u64],
-    words: &mut [u64],
-    state: &mut [u64],
-    free: &[u8],
-    states: &[u8],
-    list: &mut [u8],
-    nout: &mut [usize],
-    merits: &mut [usize],
-    extras: &mut [u8],
-    work: &mut [u8],
-    result: &mut [u8],
-) -> usize
-    requires { ⌜ (ChooseReady (now c) (now t) (now fs) k (length (now work)) (length (now result)))
-        × (Workable (now c) (now t) job (now pins) (now flops) (now outs) (now hits) (now masks) (now feed) (now words) (now state) (now free) (now states) (now list) (now nout) (now merits) (now extras))
-        × (stage1 (now c) (now t) (faultAt (now fs) 0) ≡ none) × (PlainTables (now c) (now t) (now free) (now work) (now states) (faultAt (now fs) 0)) ⌝ }
-    ensures { λ r. ⌜ Records (chosen (now (c .entry)) (now (t .entry)) (faultAt (now (fs .entry)) 0) k) (now (result .entry)) (now (result .exit)) r ⌝ }
-{
-    let mut units = [0usize; 32];
-    let mut bits = [0usize; 32];
-    let mut row = [0u8; 256];
-    let mut times = [0usize; 12];
-    let f = circuit::fault_of(fs, 0);
-    faults::give_all(hits, masks, f.line, f.pin, f.value);
-    let middle = stages::middle_stages(
-        c,
-        job,
-        t,
-        free,
-        work,
-        states,
-        pins,
-        flops,
-        outs,
-        hits,
-        masks,
-        feed,
-        words,
-        state,
-        &mut units,
-        &mut bits,
-        &mut row,
-        list,
-        nout,
-    );
-    if middle.left == 0 {
-        return 0;
-    }
-    if middle.pair < job.flops * job.units {
-        return 0;
-    }
-    pick::choose_pairs(
-        c,
-        job,
-        t,
-        free,
-        states,
-        list,
-        nout,
-        middle.left,
-        k,
-        pins,
-        flops,
-        outs,
-        hits,
-        masks,
-        feed,
-        words,
-        state,
-        &mut units,
-        &mut bits,
-        merits,
-        &mut times,
-        extras,
-        work,
-        result,
-    )
-}
-
-// The records of an accepted job, worked out in arrays that are lent: how many there are.
-fn choose_in(
-    c: &[u8],
-    job: Job,
-    t: &[u8],
-    fs: &[u8],
-    k: usize,
-    pins: &[u16],
-    flops: &[usize],
-    outs: &[usize],
-    hits: &mut [u8],
-    masks: &mut [u64],
-    feed: &mut [u64],
-    words: &mut [u64],
-    state: &mut [u64],
-    free: &mut [u8],
-    states: &mut [u8],
-    list: &mut [u8],
-    nout: &mut [usize],
-    merits: &mut [usize],
-    extras: &mut [u8],
-    work: &mut [u8],
-    result: &mut [u8],
-) -> usize
-    requires { ⌜ (ChooseReady (now c) (now t) (now fs) k (length (now work)) (length (now result)))
-        × (Workable (now c) (now t) job (now pins) (now flops) (now outs) (now hits) (now masks) (now feed) (now words) (now state) (now free) (now states) (now list) (now nout) (now merits) (now extras)) ⌝ }
-    ensures { λ r. ⌜ Records (chosen (now (c .entry)) (now (t .entry)) (faultAt (now (fs .entry)) 0) k) (now (result .entry)) (now (result .exit)) r ⌝ }
-{
-    if places::run_beside(
-        c,
-        job,
-        t,
-        fs,
-        0,
-        pins,
-        flops,
-        outs,
-        hits,
-        masks,
-        feed,
-        words,
-        state,
-        free,
-        work,
-        states,
-    ) {
-        return 0;
-    }
-    choose_open(
-        c,
-        job,
-        t,
-        fs,
-        k,
-        pins,
-        flops,
-        outs,
-        hits,
-        masks,
-        feed,
-        words,
-        state,
-        free,
-        states,
-        list,
-        nout,
-        merits,
-        extras,
-        work,
-        result,
-    )
-}
 
 // The records of a short job: how many there are.
 fn choose_short(
@@ -209,7 +42,7 @@ fn choose_short(
     let mut merits = [0usize; 16];
     let mut extras = [0u8; 768];
     circuit::list_tables(c, job.lines, &mut pins, &mut flops, &mut outs);
-    choose_in(
+    propose::propose(
         c,
         job,
         t,
@@ -262,7 +95,7 @@ fn choose_middle(
     let mut merits = [0usize; 1024];
     let mut extras = [0u8; 6144];
     circuit::list_tables(c, job.lines, &mut pins, &mut flops, &mut outs);
-    choose_in(
+    propose::propose(
         c,
         job,
         t,
@@ -315,7 +148,7 @@ fn choose_long(
     let mut merits = [0usize; 1024];
     let mut extras = [0u8; 6144];
     circuit::list_tables(c, job.lines, &mut pins, &mut flops, &mut outs);
-    choose_in(
+    propose::propose(
         c,
         job,
         t,
@@ -359,7 +192,7 @@ fn is_short(job: Job) -> bool
     job.units <= 16
 }
 
-// The records of an accepted job: how many there are. What is worked in is cleared first, so its length goes by the job's.
+// The records of an accepted job: how many there are.
 fn choose_job(
     c: &[u8],
     job: Job,

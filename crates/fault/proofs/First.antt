@@ -6,17 +6,16 @@ use mathlib.Core.Option.{Option, none, some}
 use Prim.Native.Nat.{ℕ, _<_, _≤_}
 use native.Mathlib.Omega.{arith}
 use lib.ListN.{length}
-use Rattle.lists.specs.Scan.{anyBelow}
 use Rattle.lists.specs.Field.{overwritten}
 use Rattle.lists.proofs.Scan.{anyBelow-false, anyBelow-none, firstPair-some, firstPair-none}
-use Rattle.model.specs.Inputs.{N, F, L, isOutput, inputsAt, Fault, outputLines}
+use Rattle.model.specs.Inputs.{N, F, L, inputsAt, Fault}
 use Rattle.model.specs.Accepted.{ValidCircuit, ValidTest, ThreeValued}
-use Rattle.model.specs.Values.{opposes, someOppose}
-use Rattle.model.specs.Simulation.{noFault, powerUp, lineValues, outputs, stateAt, valuesAt, outputsAt, plainValues, freeValues, plainOutputs, freeOutputs}
+use Rattle.model.specs.Values.{someOppose}
+use Rattle.model.specs.Simulation.{noFault, powerUp, lineValues, stateAt, valuesAt, outputsAt, plainOutputs, freeOutputs}
 use Rattle.model.specs.Grade.{Verdict, opposedAt, stage1, atPair}
 use Rattle.model.proofs.Runs.{length-lineValues}
 use Rattle.model.proofs.ThreeValued.{powerUp-three}
-use Rattle.model.proofs.Rows.{someOppose-select}
+use Rattle.model.proofs.Sound.{outputs-opposed}
 use Rattle.model.proofs.Stages.{atPair-none}
 use Rattle.lanes.specs.Lane.{Lane}
 use Rattle.unit.specs.Unit.{Stuck}
@@ -42,16 +41,12 @@ no-pair make none h = refl
 no-pair make (some q) h = absurd (h q refl)
 
 module _ (c t : List ℕ) (f : Fault) where
-  outputs-opposed : (u : ℕ) → someOppose (freeOutputs c t u) (plainOutputs c t f u) ≡ anyBelow (λ n. opposedAt c t f u n) (N c)
-  unfolding freeOutputs plainOutputs outputsAt outputs outputLines opposedAt freeValues plainValues
-  outputs-opposed u = someOppose-select (λ n. isOutput c n) _ _ (N c)
-
   -- no row opposes
   pub first-none : ((u : ℕ) → u < L c t → someOppose (freeOutputs c t u) (plainOutputs c t f u) ≡ false) → stage1 c t f ≡ none
   unfolding stage1
   first-none never = no-pair _ _ (λ q e.
       let met = firstPair-some (λ u n. opposedAt c t f u n) (L c t) (N c) q e in
-      true≢false (sym (met .passes) ∙ anyBelow-false (λ n. opposedAt c t f (q .0) n) (N c) (q .1) (sym (outputs-opposed (q .0)) ∙ never (q .0) (met .row)) (met .place)))
+      true≢false (sym (met .passes) ∙ anyBelow-false (λ n. opposedAt c t f (q .0) n) (N c) (q .1) (sym (outputs-opposed c t f (q .0)) ∙ never (q .0) (met .row)) (met .place)))
 
   -- a row opposes
   pub first-met : (u : ℕ) → u < L c t → someOppose (freeOutputs c t u) (plainOutputs c t f u) ≡ true → stage1 c t f ≡ none → ⊥
@@ -59,7 +54,7 @@ module _ (c t : List ℕ) (f : Fault) where
   first-met u h opposed e =
       true≢false
       (sym opposed
-      ∙ outputs-opposed u
+      ∙ outputs-opposed c t f u
       ∙ anyBelow-none (λ n. opposedAt c t f u n) (N c) (λ n l. firstPair-none (λ u n. opposedAt c t f u n) (L c t) (N c) u n (atPair-none _ _ e) h l))
 
 -- ---- what lanes 0 and 1 show at unit u, one with the fault and one without

@@ -53,6 +53,11 @@ snoc-named c t (q ∷ pairs) u i h a b = (h .0, h .1, snoc-named c t pairs u i (
 taken-named : (c t : List ℕ) (f : Fault) (p : List ℕ) (k : ℕ) → Named c t (taken c t f p k)
 taken-named c t f p k = taken-all c t f p k (Named c t) (nil-named c t) (λ pairs u i _ h n. snoc-named c t pairs u i n (h .unit) (h .bit))
 
+-- the responses of a unit oppose where one of its lines does
+pub outputs-opposed : (c t : List ℕ) (f : Fault) (u : ℕ) → someOppose (freeOutputs c t u) (plainOutputs c t f u) ≡ anyBelow (λ n. opposedAt c t f u n) (N c)
+unfolding freeOutputs plainOutputs outputsAt outputs outputLines opposedAt freeValues plainValues
+outputs-opposed c t f u = someOppose-select (λ n. isOutput c n) _ _ (N c)
+
 module _ (c t : List ℕ) (f : Fault) (a : FaultJob c t f) where
   inputs-total : (u : ℕ) → TotalRow (inputsAt c t u)
   unfolding inputsAt
@@ -272,14 +277,10 @@ module _ (c t : List ℕ) (f : Fault) (a : FaultJob c t f) where
   unfolding differs
   alike s e u h = anyBelow-false (λ u. someOppose (freeOutputs c t u) (outputsAt c t f (startingState c s) u)) (L c t) u e h
 
-  outputs-opposed : (u : ℕ) → someOppose (freeOutputs c t u) (plainOutputs c t f u) ≡ anyBelow (λ n. opposedAt c t f u n) (N c)
-  unfolding freeOutputs plainOutputs outputsAt outputs outputLines opposedAt freeValues plainValues
-  outputs-opposed u = someOppose-select (λ n. isOutput c n) _ _ (N c)
-
   pub stage1-sound : (u n : ℕ) → u < L c t → n < N c → opposedAt c t f u n ≡ true → (s : ℕ) → differs c t f s ≡ true
   stage1-sound u n h k e s = is-true _ (λ d.
       let plain : someOppose (freeOutputs c t u) (plainOutputs c t f u) ≡ true =
-      is-true _ (λ z. clash _ e (anyBelow-false (λ n. opposedAt c t f u n) (N c) n (sym (outputs-opposed u) ∙ z) k)) in
+      is-true _ (λ z. clash _ e (anyBelow-false (λ n. opposedAt c t f u n) (N c) n (sym (outputs-opposed c t f u) ∙ z) k)) in
       clash _ (someOppose-allows (freeOutputs c t u) _ _ (plainOutputs-allows (startingState c s) (start-whole s) (start-each s) u) plain) (alike s d u h))
 
   pub stage3-sound : (u i : ℕ) → u < L c t → i < F c → bothMarked c t f u i ≡ true → (s : ℕ) → differs c t f s ≡ true
@@ -311,7 +312,7 @@ module _ (c t : List ℕ) (f : Fault) (a : FaultJob c t f) where
 
   module _ (unopposed : (u n : ℕ) → u < L c t → n < N c → opposedAt c t f u n ≡ false) where
     plain-alike : (u : ℕ) → u < L c t → someOppose (freeOutputs c t u) (plainOutputs c t f u) ≡ false
-    plain-alike u h = outputs-opposed u ∙ anyBelow-none (λ n. opposedAt c t f u n) (N c) (λ n k. unopposed u n h k)
+    plain-alike u h = outputs-opposed c t f u ∙ anyBelow-none (λ n. opposedAt c t f u n) (N c) (λ n k. unopposed u n h k)
 
     closed : anyBelow (λ u. bothOpen c t f u) (L c t) ≡ false → 0 < F c → nout c t f 0 ≡ 0
     closed e h =

@@ -12,14 +12,14 @@ use Rattle.choose.proofs.choose_short.Tie as tie
 abbrev start : tie.After-outs → tie.Start
 start c = c .before .before .before .before .before .before .before .before
 
-abbrev listed : tie.After-choose-in-arg → tie.After-list-tables
+abbrev listed : tie.After-propose-arg → tie.After-list-tables
 listed c = c .before .before .before .before .before .before .before .before .before .before .before .before .before .before .before .before .before .before
 
 list-tables-requires : tie.Need-list-tables-requires
 list-tables-requires c κs = let pre = start c .pre in (pre .0 .inputs .circuit, pre .1 .lines, omega (arith, pre .2 .lines), omega arith, omega arith)
 
-choose-in-requires : tie.Need-choose-in-requires
-choose-in-requires c κs =
+propose-requires : tie.Need-propose-requires
+propose-requires c κs =
     let tables = listed (c .before) in
     let pre = start (tables .before) .pre in
     let of = pre .1 in
@@ -56,7 +56,7 @@ choose-short-spec =
     (λ c. search needs)
     (λ c. search needs)
     (λ c. search needs)
-    choose-in-requires
+    propose-requires
     (λ c. search needs)
     (λ c. search needs)
     (λ c. search needs))

@@ -11,10 +11,10 @@ use Rattle.best.proofs.Bounds.{nouts-small}
 use Rattle.run.proofs.Laws.{runnable-again}
 use Rattle.stages.proofs.Laws.{last-none}
 use Rattle.places.proofs.Laws.{work-room, runnable-given}
-use Rattle.choose.proofs.Laws.{table-size, records-none, records-as}
+use Rattle.propose.proofs.Laws.{table-size, records-none, records-as}
 use borrow.Author.Needs.{needs}
-use Rattle.choose.proofs.choose_open.Statement.{statement}
-use Rattle.choose.proofs.choose_open.Tie as tie
+use Rattle.propose.proofs.propose_open.Statement.{statement}
+use Rattle.propose.proofs.propose_open.Tie as tie
 
 -- places
 abbrev start : tie.After-fault-of → tie.Start
@@ -170,8 +170,8 @@ returns-3 c =
     (chose .choose-pairs .ensures .records _ (said .ready some-left past) (λ u h. list-three _ _ _ (s .pre .1 .runs .test) (fault s) (last-none _ _ _ undecided) u h)
     (λ u h. middle .middle-stages .ensures .nout _ (s .pre .3) u h))
 
-pub choose-open-spec : {M : Type 1} → statement M
-choose-open-spec =
+pub propose-open-spec : {M : Type 1} → statement M
+propose-open-spec =
     tie.close
     (tie.spec
     (λ c κs. search needs)

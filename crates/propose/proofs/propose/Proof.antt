@@ -1,10 +1,10 @@
 use mathlib.Core.Path.{_∙_}
 use native.Mathlib.Omega.{arith}
 use Rattle.places.proofs.Laws.{work-room, faults-of}
-use Rattle.choose.proofs.Laws.{records-none, workable-again, chosen-first}
+use Rattle.propose.proofs.Laws.{records-none, workable-again, chosen-first}
 use borrow.Author.Needs.{needs}
-use Rattle.choose.proofs.choose_in.Statement.{statement}
-use Rattle.choose.proofs.choose_in.Tie as tie
+use Rattle.propose.proofs.propose.Statement.{statement}
+use Rattle.propose.proofs.propose.Tie as tie
 
 -- places
 abbrev start : tie.After-run-beside-arg8 → tie.Start
@@ -35,7 +35,7 @@ lined c = masked c .before .before
 abbrev ran : tie.After-states → tie.After-run-beside
 ran c = lined c .before
 
-abbrev else : tie.After-choose-open-arg → tie.Else1
+abbrev else : tie.After-propose-open-arg → tie.Else1
 else c = c .before
 
 abbrev lent-back : tie.After-slice-known32 → tie.After-state2
@@ -62,8 +62,8 @@ run-beside-requires c κs =
 returns : tie.Need-returns
 returns c = records-none _ _ (chosen-first _ _ _ _ (ran (c .before .before) .run-beside .ensures .1 .met (c .if1 .taken)))
 
-choose-open-requires : tie.Need-choose-open-requires
-choose-open-requires c κs =
+propose-open-requires : tie.Need-propose-open-requires
+propose-open-requires c κs =
     let at = else (c .before .before .before .before .before .before .before .before .before .before .before .before) in
     let states = at .before .before in
     let run = ran states in
@@ -75,8 +75,8 @@ choose-open-requires c κs =
       run .run-beside .ensures .1 .tables (at .if1 .left),
     )
 
-pub choose-in-spec : {M : Type 1} → statement M
-choose-in-spec =
+pub propose-spec : {M : Type 1} → statement M
+propose-spec =
     tie.close
     (tie.spec
     run-beside-requires
@@ -89,7 +89,7 @@ choose-in-spec =
     (λ c. search needs)
     (λ c. search needs)
     returns
-    choose-open-requires
+    propose-open-requires
     (λ c. lent-back c .before .before .before .before .before .before .before .before .hits2 .given ∙ lined (done c) .hits .given)
     (λ c. lent-back c .before .before .before .before .before .before .masks2 .given ∙ masked (done c) .masks .given)
     (λ c. lent-back c .before .before .before .before .feed2 .given ∙ fed (done c) .feed .given)

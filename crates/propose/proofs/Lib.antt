@@ -1,0 +1,2 @@
+-- Laws of what is proposed.
+pub mod Laws

@@ -1,0 +1,2 @@
+-- Room for a job.
+pub mod Room
