@@ -192,7 +192,8 @@ fn is_short(job: Job) -> bool
     job.units <= 16
 }
 
-// The records of an accepted job: how many there are.
+// The records of an accepted job: how many there are. The longest arrays are asked for at two places, so that the compiler leaves them a frame of
+// their own, whose pages no other job then touches.
 fn choose_job(
     c: &[u8],
     job: Job,
