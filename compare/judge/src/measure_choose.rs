@@ -11,9 +11,6 @@ use crate::refusals::Refusal;
 use crate::search::with_faults;
 use std::io;
 
-/// Those of the jobs of Grade of which one fault each is measured.
-const JOBS: [&str; 4] = ["stage3_middle", "stage5", "small", "tiny"];
-
 #[rustfmt::skip]
 extern "C" {
     fn balithoomai_choose(
@@ -92,11 +89,14 @@ fn measure_random(name: &str, make: fn(&mut Random) -> LentJob) -> io::Result<()
     Ok(())
 }
 
-/// Prints for each job the milliseconds of this grader and of the library, each the least of many calls by turns, and their ratio; then
-/// the ratios of random jobs.
+/// Prints for each job of Grade and each of the program the milliseconds of this grader and of the library, each the least of many calls by
+/// turns, and their ratio; then the ratios of random jobs.
 pub fn measure() -> io::Result<()> {
-    for (name, make) in bench::JOBS.iter().filter(|(name, _)| JOBS.contains(name)) {
+    for (name, make) in &bench::JOBS {
         measure_calls(name, &of_open_fault(make()), by_library, by_judge)?;
+    }
+    for (name, make) in &bench::PROGRAM_JOBS {
+        measure_calls(&format!("program, {name}"), &of_open_fault(make()), by_library, by_judge)?;
     }
     measure_random("random jobs, open faults", any_open_job)?;
     measure_random("random jobs, any faults", any_job)
