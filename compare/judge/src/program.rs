@@ -24,7 +24,7 @@ pub fn print(files: [&[u8]; 4]) -> String {
     }
 }
 
-/// Per fault: line, pin, value, the record's first eight fields, group.
+/// Per fault: line, pin, value, the record's first eight fields, group. After the last fault: the total.
 fn list([circuit, test, faults, plan]: [&[u8]; 4]) -> Result<String, Refusal> {
     let mut records = vec![0; AREA_LEN];
     let count = grade(circuit, test, faults, plan, K, AREA_LEN, &mut records)?;
@@ -40,7 +40,14 @@ fn list([circuit, test, faults, plan]: [&[u8]; 4]) -> Result<String, Refusal> {
         }
         writeln!(text, " {}", number(&groups[2 * n..])).expect("text can be written");
     }
-    Ok(text)
+    Ok(text + &total(&records[..16 * count]))
+}
+
+/// `total` and, for verdicts 1 to 7, the number of records with that verdict.
+fn total(records: &[u8]) -> String {
+    let with = |verdict: u8| records.chunks_exact(16).filter(|record| record[0] == verdict).count();
+    let counts: Vec<String> = (1..=7).map(|verdict| with(verdict).to_string()).collect();
+    format!("total {}\n", counts.join(" "))
 }
 
 fn number(field: &[u8]) -> u16 {
@@ -50,6 +57,12 @@ fn number(field: &[u8]) -> u16 {
 #[cfg(test)]
 mod tests {
     use super::*;
+
+    #[test]
+    fn every_verdict_has_its_place_in_the_total() {
+        let records = [7, 1, 6, 2, 7, 5, 4, 7, 3, 6].map(|verdict| [verdict; 16]).concat();
+        assert_eq!(total(&records), "total 1 1 1 1 1 2 3\n");
+    }
 
     #[test]
     fn the_first_file_that_is_too_long_is_named() {
@@ -64,8 +77,8 @@ mod tests {
         let circuit = [0, 0, 1, 0, 0, 0, 0, 0, 0, 0, 0, 0];
         assert_eq!(print([&[], &[], &[], &[]]), "refused 1 0\n");
         assert_eq!(print([&circuit, &[], &[], &[]]), "refused 7 0\n");
-        assert_eq!(print([&circuit, &[1], &[], &[]]), "");
-        assert_eq!(print([&circuit, &[1], &[0, 0, 0, 0], &[]]), "0 0 0 1 0 0 0 0 0 0 0 0\n");
+        assert_eq!(print([&circuit, &[1], &[], &[]]), "total 0 0 0 0 0 0 0\n");
+        assert_eq!(print([&circuit, &[1], &[0, 0, 0, 0], &[]]), "0 0 0 1 0 0 0 0 0 0 0 0\ntotal 1 0 0 0 0 0 0\n");
         assert_eq!(print([&circuit, &[1], &[0, 0, 0, 0].repeat(4097), &[]]), "refused 14 0\n");
     }
 }

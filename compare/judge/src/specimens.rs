@@ -50,7 +50,8 @@ const FAULTS_OF_A: [(usize, usize, u8); 4] = [(0, 0, 1), (0, 0, 0), (3, 0, 1), (
 const PRINT_OF_A: &str = "0 0 1 3 0 0 0 1 0 0 0 0\n\
                           0 0 0 5 0 0 0 0 0 0 0 1\n\
                           3 0 1 1 0 1 1 0 0 0 0 2\n\
-                          3 1 1 3 0 0 0 1 0 0 0 0\n";
+                          3 1 1 3 0 0 0 1 0 0 0 0\n\
+                          total 1 0 2 0 1 0 0\n";
 
 /// A with its whole fault list.
 fn whole_of_a() -> LentJob {

@@ -8,7 +8,7 @@ pub struct Tally {
     jobs: usize,
     damaged: usize,
     too_long: usize,
-    empty_prints: usize,
+    without_faults: usize,
     /// By verdict: records, and jobs with such a record.
     verdicts: [usize; 8],
     jobs_with_verdict: [usize; 8],
@@ -28,7 +28,7 @@ impl Tally {
     pub fn count_job(&mut self, is_damaged: bool, print: &str) {
         self.jobs += 1;
         self.damaged += is_damaged as usize;
-        self.empty_prints += print.is_empty() as usize;
+        self.without_faults += print.starts_with("total") as usize;
         let before = self.verdicts;
         for line in print.lines() {
             let words: Vec<&str> = line.split(' ').collect();
@@ -36,6 +36,7 @@ impl Tally {
             match words[0] {
                 "too" => self.too_long += 1,
                 "refused" => self.refusals[number(1)] += 1,
+                "total" => (),
                 _ => self.verdicts[number(3)] += 1,
             }
         }
@@ -70,8 +71,8 @@ impl Tally {
 
     pub fn print(&self) {
         println!(
-            "{} jobs, {} damaged, {} too long, {} empty prints",
-            self.jobs, self.damaged, self.too_long, self.empty_prints
+            "{} jobs, {} damaged, {} too long, {} without a fault",
+            self.jobs, self.damaged, self.too_long, self.without_faults
         );
         println!("records with verdicts 1 to 7: {:?}", &self.verdicts[1..]);
         println!("jobs with verdicts 1 to 7: {:?}", &self.jobs_with_verdict[1..]);

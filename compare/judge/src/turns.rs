@@ -36,10 +36,10 @@ pub fn measure(grader: &str) -> io::Result<()> {
     scratch.clear()
 }
 
-/// Runs both once and then by turns; all runs print the same, a line for each fault.
+/// Runs both once and then by turns; all runs print the same, a line for each fault and the total.
 fn take_turns(scratch: &Scratch, faults: usize, mut players: [Player; 2]) -> io::Result<[Player; 2]> {
     let expected = players[1].run(scratch)?;
-    if expected.print.iter().filter(|&&byte| byte == b'\n').count() != faults {
+    if expected.print.iter().filter(|&&byte| byte == b'\n').count() != faults + 1 {
         return Err(io::Error::other("the job is refused"));
     }
     if players[0].run(scratch)? != expected || !expected.succeeded {

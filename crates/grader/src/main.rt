@@ -47,9 +47,9 @@ fn list_short(circuit: &[u8], test: &[u8], faults: &[u8], plan: &[u8], longer: L
     list(circuit, test, faults, plan, longer, &mut out);
 }
 
-// A print for 910 faults.
+// A print for 909 faults.
 fn list_medium(circuit: &[u8], test: &[u8], faults: &[u8], plan: &[u8], longer: Longer)
-    requires { ⌜ length (now faults) ≤ 3640 ⌝ }
+    requires { ⌜ length (now faults) ≤ 3636 ⌝ }
 {
     let mut out = [0u8; 65536];
     list(circuit, test, faults, plan, longer, &mut out);
@@ -57,7 +57,7 @@ fn list_medium(circuit: &[u8], test: &[u8], faults: &[u8], plan: &[u8], longer: 
 
 // A print for as many faults as have records.
 fn list_long(circuit: &[u8], test: &[u8], faults: &[u8], plan: &[u8], longer: Longer) {
-    let mut out = [0u8; 294912];
+    let mut out = [0u8; 294960];
     list(circuit, test, faults, plan, longer, &mut out);
 }
 
@@ -98,7 +98,7 @@ fn main() {
     };
     if faults.len() <= 224 {
         list_short(circuit, test, faults, plan, longer);
-    } else if faults.len() <= 3640 {
+    } else if faults.len() <= 3636 {
         list_medium(circuit, test, faults, plan, longer);
     } else {
         list_long(circuit, test, faults, plan, longer);

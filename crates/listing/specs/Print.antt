@@ -41,10 +41,11 @@ pub record Listable (fs records groups : List ℕ) (count size : ℕ) : Type 0 w
   pub grouped : 2 * count ≤ length groups
   pub room : 72 * count ≤ size
 
--- a print of `size` bytes has room: for a line that is not a fault's, and for a line to each fault, of which no more than 4,096 have records
+-- a print of `size` bytes has room: for a line that stands alone, and for a line to each fault, of which no more than 4,096 have records,
+-- and the total
 pub record PrintRoom (fs : List ℕ) (size : ℕ) : Type 0 where
   pub line : 100 ≤ size
-  pub lines : 72 * min (length fs / 4) 4096 ≤ size
+  pub lines : 72 * min (length fs / 4) 4096 + 48 ≤ size
 
 -- the lines of a job whose files are not too long
 unfoldable pub jobPrint : List ℕ → List ℕ → List ℕ → List ℕ → List ℕ

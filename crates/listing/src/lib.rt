@@ -1,9 +1,12 @@
-// What the program prints, from what it has read of its four files: `too long` and a name, `refused` and two numbers, or a line for each fault.
+// What the program prints, from what it has read of its four files: `too long` and a name, `refused` and two numbers, or a line for each fault and
+// the total.
 ghost use mathlib.Core.Path.{_≡_};
+ghost use mathlib.Core.List.{_++_};
 ghost use Prim.Native.Nat.{_+_, _*_, _≤_};
 ghost use lib.ListN.{length, take};
+ghost use Rattle.lists.specs.Scan.{tabulate};
 ghost use Rattle.model.specs.Inputs.{faultCount};
-ghost use Rattle.model.specs.Listing.{numberLine, refusedLine, tooLongLine, gradedLines};
+ghost use Rattle.model.specs.Listing.{numberLine, refusedLine, tooLongLine, gradedLines, withVerdict, totalLine};
 ghost use Rattle.decimals.specs.Put.{Put};
 ghost use Rattle.listing.specs.Print.{faultFields, FieldsOf, linesBelow, Listable, PrintRoom, jobPrint, Printed};
 use job::Outcome;
@@ -94,7 +97,7 @@ fn put_fault(
 // The lines of all faults.
 fn put_faults(faults: &[u8], records: &[u8], groups: &[u8], count: usize, out: &mut [u8]) -> usize
     requires { ⌜ Listable (now faults) (now records) (now groups) count (length (now out)) ⌝ }
-    ensures { λ r. ⌜ Put 0 r (linesBelow (now (faults .entry)) (now (records .entry)) (now (groups .entry)) count) (now (out .entry)) (now (out .exit)) ⌝ }
+    ensures { λ r. ⌜ (Put 0 r (linesBelow (now (faults .entry)) (now (records .entry)) (now (groups .entry)) count) (now (out .entry)) (now (out .exit))) × (r ≤ 72 * count) ⌝ }
 {
     let mut at: usize = 0;
     let mut j: usize = 0;
@@ -105,7 +108,32 @@ fn put_faults(faults: &[u8], records: &[u8], groups: &[u8], count: usize, out: &
     at
 }
 
-// The lines of a job that Grade has accepted: its records stand at the beginning of the result area. They are 4,096 at most, so their groups
+// How many records have each verdict: a count for every byte, so that none is out of range.
+fn count_verdicts(records: &[u8]) -> [usize; 256]
+    ensures { λ r. ⌜ r ≡ tabulate (λ v. withVerdict (now (records .entry)) v) 0 256 ⌝ }
+{
+    let mut counts = [0usize; 256];
+    let count = records.len() / 16;
+    let mut n: usize = 0;
+    while n < count {
+        let verdict = basics::wide(records[16 * n]);
+        counts[verdict] += 1;
+        n += 1;
+    }
+    counts
+}
+
+// `total` and the seven counts.
+fn put_total(records: &[u8], out: &mut [u8], at: usize) -> usize
+    requires { ⌜ (length (now records) ≤ 65536) × (at + 48 ≤ length (now out)) ⌝ }
+    ensures { λ r. ⌜ Put at r (totalLine (now (records .entry))) (now (out .entry)) (now (out .exit)) ⌝ }
+{
+    let counts = count_verdicts(records);
+    let words = put_text(out, at, b"total ");
+    decimals::put_line(out, words, &counts[1..8])
+}
+
+// The lines of a job that Grade has accepted, and the total: its records stand at the beginning of the result area. They are 4,096 at most, so their groups
 // are written with less room than Group itself makes.
 fn put_graded(
     faults: &[u8],
@@ -114,8 +142,8 @@ fn put_graded(
     groups: &mut Area,
     out: &mut [u8],
 ) -> usize
-    requires { ⌜ (count ≡ faultCount (now faults)) × (count ≤ 4096) × (72 * count ≤ length (now out)) ⌝ }
-    ensures { λ r. ⌜ Put 0 r (gradedLines (now (faults .entry)) (take (16 * count) (now (result .entry)))) (now (out .entry)) (now (out .exit)) ⌝ }
+    requires { ⌜ (count ≡ faultCount (now faults)) × (count ≤ 4096) × (72 * count + 48 ≤ length (now out)) ⌝ }
+    ensures { λ r. ⌜ Put 0 r (gradedLines (now (faults .entry)) (take (16 * count) (now (result .entry))) ++ totalLine (take (16 * count) (now (result .entry)))) (now (out .entry)) (now (out .exit)) ⌝ }
 {
     let area = &result[..];
     let end = 16 * count;
@@ -123,7 +151,8 @@ fn put_graded(
     let mut keys = [0usize; 4096];
     let mut firsts = [0usize; 4096];
     group::write_groups(records, &mut keys, &mut firsts, groups);
-    put_faults(faults, records, groups, count, out)
+    let lines = put_faults(faults, records, groups, count, out);
+    put_total(records, out, lines)
 }
 
 // The lines of a job.

@@ -78,7 +78,7 @@ fn list(title: &[u8], circuit: &[u8], test: &[u8], faults: &[u8], plan: &[u8], l
     let mut work = [0u8; 65536];
     let mut result = [0u8; 65536];
     let mut groups = [0u8; 65536];
-    let mut out = [0u8; 294912];
+    let mut out = [0u8; 294960];
     let size = listing::listing(
         circuit,
         test,

@@ -1,4 +1,5 @@
--- Scans over the numbers below a bound: the first that passes a test, whether any does, how many do, which do; and lists made of them.
+-- Scans over the numbers below a bound: the first that passes a test, whether any does, how many do, which do; and lists made of them, with
+-- their sum.
 -- All have the highest number last, as a loop does; `tabulate` recurses from the front, the others from the back.
 use Prim.Native.Nat.{ℕ, zero, suc, _+_}
 use mathlib.Core.Bool.{Bool, false, cond, _||_}
@@ -48,6 +49,10 @@ select P (suc n) = select P n ++ cond (P n) (n ∷ []) []
 unfoldable pub tabulate : {A : Type 0} → (ℕ → A) → ℕ → ℕ → List A
 tabulate g from zero = []
 tabulate g from (suc n) = g from ∷ tabulate g (suc from) n
+
+unfoldable pub sum : List ℕ → ℕ
+sum [] = 0
+sum (n ∷ ns) = n + sum ns
 
 -- the lists g 0, .. , g (n - 1), end to end
 unfoldable pub gather : {A : Type 0} → (ℕ → List A) → ℕ → List A

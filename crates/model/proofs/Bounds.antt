@@ -8,7 +8,7 @@ use lib.Dec.{eqb}
 use lib.Pow.{pow-mono}
 use native.Mathlib.Omega.{arith}
 use borrow.Author.Tests.{leb-true}
-use Rattle.lists.specs.Scan.{countBelow}
+use Rattle.lists.specs.Scan.{tabulate, sum}
 use Rattle.model.specs.Inputs.{N, flipFlopLine, F, L, Fault}
 use Rattle.model.specs.Values.{hasConflict, someOppose}
 use Rattle.model.specs.Starts.{freeBits, startCount}
@@ -17,6 +17,7 @@ use Rattle.model.specs.Grade.{placed, counted, grade}
 use Rattle.model.specs.Promises.{carriesCounts, InBounds}
 use Rattle.lists.proofs.Tests.{cond-cases, clash}
 use Rattle.lists.proofs.Scan.{countBelow-bound}
+use Rattle.lists.proofs.Counts.{counts-sum}
 use Rattle.model.proofs.Runs.{flipFlopLine-holds}
 use Rattle.model.proofs.Pairs.{taken-all}
 use Rattle.model.proofs.Stages.{before-case, after-case, grade-cases}
@@ -35,22 +36,11 @@ module _ (c t : List ℕ) (f : Fault) where
   unfolding endOf
   endOf-bound pairs b = ending-bound pairs b 0 (L c t) _
 
-  three-ways : (e : ℕ) → e ≤ 2 → cond (eqb e 1) 1 0 + cond (eqb e 2) 1 0 + cond (eqb e 0) 1 0 ≡ 1
-  three-ways zero h = refl
-  three-ways (suc zero) h = refl
-  three-ways (suc (suc zero)) h = refl
-  three-ways (suc (suc (suc e))) h = absurd (let z : ⊥ = omega arith in z)
-
-  counts-sum : (g : ℕ → ℕ) → ((b : ℕ) → g b ≤ 2) → (n : ℕ)
-      → countBelow (λ b. eqb (g b) 1) n + countBelow (λ b. eqb (g b) 2) n + countBelow (λ b. eqb (g b) 0) n ≡ n
-  unfolding countBelow
-  counts-sum g h zero = refl
-  counts-sum g h (suc n) = omega (arith, counts-sum g h n, three-ways (g n) (h n))
-
   endings-sum : (pairs : List (ℕ × ℕ))
       → countEnding c t f pairs endsDiffering + countEnding c t f pairs endsClashing + countEnding c t f pairs endsSurviving ≡ 2 ^ length pairs
-  unfolding countEnding
-  endings-sum pairs = counts-sum (λ b. endOf c t f pairs b) (λ b. endOf-bound pairs b) (2 ^ length pairs)
+  unfolding countEnding sum tabulate
+  endings-sum pairs =
+      omega (arith, counts-sum (λ b. endOf c t f pairs b) 0 3 (2 ^ length pairs) (λ b _. (omega arith, omega (arith, endOf-bound pairs b))))
 
   -- ---- no more than k pairs are taken
   taken-bound : (p : List ℕ) (k : ℕ) → length (taken c t f p k) ≤ k

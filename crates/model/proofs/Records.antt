@@ -56,6 +56,15 @@ pub length-gradeBytes : (c t fs p : List ℕ) (k : ℕ) → length (gradeBytes c
 unfolding gradeBytes
 length-gradeBytes c t fs p k = length-gather (λ j. recordBytes (grade c t (faultAt fs j) p k)) 16 (λ j. length-record _) (faultCount fs)
 
+module _ (c t fs p : List ℕ) (k j : ℕ) (h : j < faultCount fs) where
+  bytes-part : recordPart (gradeBytes c t fs p k) j ≡ recordBytes (grade c t (faultAt fs j) p k)
+  unfolding gradeBytes
+  bytes-part = gather-part (λ j. recordBytes (grade c t (faultAt fs j) p k)) 16 (λ j. length-record _) (faultCount fs) j h
+
+  -- record j of the bytes is the record of fault j
+  pub bytes-record : InBounds k (grade c t (faultAt fs j) p k) → recordAt (gradeBytes c t fs p k) j ≡ grade c t (faultAt fs j) p k
+  bytes-record b = recordAt-part (gradeBytes c t fs p k) j ∙ ap (λ (part : List ℕ). recordAt part 0) bytes-part ∙ record-back k _ b
+
 -- Group takes any records that fit the program's area
 pub group-accepts : (vs : List ℕ) (n : ℕ) → length vs ≡ 16 * n → 16 * n ≤ 65536 → groupRefusal vs 65536 ≡ none
 unfolding groupRefusal row15 row14 refuse orElse
@@ -66,10 +75,6 @@ group-accepts vs n e h =
     rw (whole, short, room)
 
 module _ (c t fs p : List ℕ) (k work : ℕ) (old : List ℕ) (e : gradeRefusal c t fs p k work (length old) ≡ none) where
-  bytes-part : (j : ℕ) → j < faultCount fs → take 16 (drop (16 * j) (gradeBytes c t fs p k)) ≡ recordBytes (grade c t (faultAt fs j) p k)
-  unfolding gradeBytes
-  bytes-part j h = gather-part (λ j. recordBytes (grade c t (faultAt fs j) p k)) 16 (λ j. length-record _) (faultCount fs) j h
-
   -- record j of the area is the record of fault j
   pub area-part : (j : ℕ) → j < faultCount fs → recordPart (gradeArea c t fs p k work old) j ≡ recordBytes (grade c t (faultAt fs j) p k)
   unfolding gradeArea unlessRefused overwritten
@@ -80,7 +85,7 @@ module _ (c t fs p : List ℕ) (k work : ℕ) (old : List ℕ) (e : gradeRefusal
       rw e
       (ap (take 16) (drop-append-le (16 * j) (gradeBytes c t fs p k) _ (omega arith))
       ∙ take-append-le 16 (drop (16 * j) (gradeBytes c t fs p k)) _ left
-      ∙ bytes-part j h)
+      ∙ bytes-part c t fs p k j h)
 
   pub area-record : (j : ℕ) → j < faultCount fs → InBounds k (grade c t (faultAt fs j) p k)
       → recordAt (gradeArea c t fs p k work old) j ≡ grade c t (faultAt fs j) p k

@@ -1,11 +1,12 @@
 -- The theorems, for every accepted job. What `reads-back`, `own-fault`, `fault-free` and `graded-groups` say is stated here alone, what the
 -- others say in specs/Promises.
 use mathlib.Core.Path.{_≡_, sym, ap, _∙_}
-use Prim.Native.Nat.{ℕ, _*_, _<_}
+use Prim.Native.Nat.{ℕ, _+_, _*_, _-_, _/_, _<_}
 use mathlib.Core.List.{List}
 use mathlib.Core.Option.{none}
 use lib.ListN.{length, take}
 use lib.Seq.{take-at}
+use lib.Dec.{eqb}
 use native.Mathlib.Omega.{arith}
 use mathlib.Core.Bool.{false}
 use borrow.Author.Tests.{ne-eqb}
@@ -14,37 +15,64 @@ use Rattle.model.specs.Refusals.{circuitRows, inputRows, gradeRefusal, c
 use Rattle.model.specs.Accepted.{ValidCircuit, GradeReady, ChooseReady}
 use Rattle.model.specs.Simulation.{noFault, isStuck}
 use Rattle.model.specs.Grade.{grade, recordBytes, recordAt, gradeBytes, gradeArea}
+use Rattle.lists.specs.Scan.{countBelow, sum}
 use Rattle.lists.specs.Field.{overwritten}
+use Rattle.lists.proofs.Scan.{countBelow-same, length-select, length-tabulate, getD-tabulate, tabulate-same}
+use Rattle.lists.proofs.Counts.{counts-sum}
+use Rattle.model.specs.Listing.{withVerdict, sevenCounts}
 use Rattle.model.specs.Choose.{chosen, planBytes, chooseAnswer, chooseArea}
-use Rattle.model.specs.Promises.{EveryStart, Demand3, InBounds, recordPart, WellChosen, ChoosesWell, PinsOpen, ClearLists}
+use Rattle.model.specs.Promises.{EveryStart, Demand3, InBounds, recordPart, Totals, WellChosen, ChoosesWell, PinsOpen, ClearLists}
 use Rattle.model.proofs.Accepted.{validCircuit, validInputs, faultJob, gradeReady, chooseReady, answered, area-done}
 use Rattle.model.proofs.Promise.{promise}
 use Rattle.model.proofs.Bounds.{bounds}
-use Rattle.model.proofs.Records.{length-gradeBytes, group-accepts, area-part, area-record}
+use Rattle.model.proofs.Records.{length-gradeBytes, bytes-record, group-accepts, area-part, area-record}
 use Rattle.model.proofs.Choose.{length-plan, well-chosen}
 use Rattle.model.proofs.Starts.{every-start}
 use Rattle.model.proofs.Open.{pins-open}
 use Rattle.model.proofs.Apart.{sequence-clear}
 
-module _ (c t fs p : List ℕ) (k work : ℕ) (old : List ℕ) (e : gradeRefusal c t fs p k work (length old) ≡ none) (j : ℕ) (h : j < faultCount fs) where
-  verdict-bounds : InBounds k (grade c t (faultAt fs j) p k)
-  verdict-bounds =
-      let ready : GradeReady c t fs p k work (length old) = gradeReady c t fs p k work (length old) e in
-      bounds c t (faultAt fs j) p k (ready .inputs .circuit .lines) (ready .inputs .test .most) (ready .limit)
+verdict-bounds : (c t fs p : List ℕ) (k work result : ℕ) → gradeRefusal c t fs p k work result ≡ none → (f : Fault) → InBounds k (grade c t f p k)
+verdict-bounds c t fs p k work result e f =
+    let ready : GradeReady c t fs p k work result = gradeReady c t fs p k work result e in
+    bounds c t f p k (ready .inputs .circuit .lines) (ready .inputs .test .most) (ready .limit)
 
+module _ (c t fs p : List ℕ) (k work : ℕ) (old : List ℕ) (e : gradeRefusal c t fs p k work (length old) ≡ none) (j : ℕ) (h : j < faultCount fs) where
   -- the record that Grade writes for fault j reads back as that fault's verdict: nothing is lost in the 16 bytes
   pub reads-back : recordAt (gradeArea c t fs p k work old) j ≡ grade c t (faultAt fs j) p k
-  reads-back = area-record c t fs p k work old e j h verdict-bounds
+  reads-back = area-record c t fs p k work old e j h (verdict-bounds c t fs p k work (length old) e (faultAt fs j))
 
   -- every record that Grade writes is in its bounds
   pub in-bounds : InBounds k (recordAt (gradeArea c t fs p k work old) j)
-  in-bounds = rw reads-back verdict-bounds
+  in-bounds = rw reads-back (verdict-bounds c t fs p k work (length old) e (faultAt fs j))
 
 -- demand 3, of the bytes that Grade writes
 pub demand-three : (c t fs p : List ℕ) (k work : ℕ) (old : List ℕ) → Demand3 c t fs p k work old (gradeArea c t fs p k work old)
 demand-three c t fs p k work old e j h =
     rw (reads-back c t fs p k work old e j h)
     (promise c t (faultAt fs j) (faultJob (gradeReady c t fs p k work (length old) e .inputs) j h) p k)
+
+-- the counts under the lines of an accepted job
+module _ (c t fs p : List ℕ) (k work result : ℕ) (e : gradeRefusal c t fs p k work result ≡ none) where
+  verdict-count : (v : ℕ) → withVerdict (gradeBytes c t fs p k) v ≡ countBelow (λ j. eqb (grade c t (faultAt fs j) p k .verdict) v) (faultCount fs)
+  unfolding withVerdict
+  verdict-count v =
+      let records : length (gradeBytes c t fs p k) / 16 ≡ faultCount fs = omega (arith, length-gradeBytes c t fs p k) in
+      rw records (countBelow-same _ _ (faultCount fs) (λ j h.
+      rw (bytes-record c t fs p k j h (verdict-bounds c t fs p k work result e (faultAt fs j)))))
+
+  pub totals : Totals c t fs p k (sevenCounts (gradeBytes c t fs p k))
+  unfolding sevenCounts
+  totals =
+      let verdictOf : ℕ → ℕ = λ j. grade c t (faultAt fs j) p k .verdict in
+      record {
+        seven = length-tabulate _ 1 7;
+        each = λ v low high.
+            let here : 1 + (v - 1) ≡ v = omega arith in
+            getD-tabulate (λ v. withVerdict (gradeBytes c t fs p k) v) 1 7 (v - 1) 0 (omega arith)
+            ∙ ap (withVerdict (gradeBytes c t fs p k)) here ∙ verdict-count v ∙ sym (length-select (λ j. eqb (verdictOf j) v) (faultCount fs));
+        all = ap sum (tabulate-same _ _ 1 7 (λ v _ _. verdict-count v)) ∙ counts-sum verdictOf 1 7 (faultCount fs)
+            (λ j _. let b = verdict-bounds c t fs p k work result e (faultAt fs j) in (b .low, omega (arith, b .high)));
+      }
 
 -- a record depends on its own fault, never on others in the list
 pub own-fault : (c t fs gs p : List ℕ) (k work room : ℕ) (old held : List ℕ)

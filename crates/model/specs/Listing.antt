@@ -4,8 +4,8 @@ use mathlib.Core.Bool.{cond}
 use mathlib.Core.List.{List, [], _∷_, _++_}
 use mathlib.Core.Option.{Option, none, some, Option·getD}
 use lib.ListN.{length}
-use lib.Dec.{ltb}
-use Rattle.lists.specs.Scan.{_else_, gather}
+use lib.Dec.{eqb, ltb}
+use Rattle.lists.specs.Scan.{_else_, countBelow, tabulate, gather}
 use Rattle.model.specs.Inputs.{Fault, faultCount, faultAt}
 use Rattle.model.specs.Refusals.{Refusal, gradeRefusal}
 use Rattle.model.specs.Grade.{Verdict, eightFields, recordAt, gradeBytes}
@@ -59,8 +59,21 @@ tooLong file name = cond (ltb 65536 (length file)) (some (tooLongLine name)) non
 unfoldable pub gradedLines : List ℕ → List ℕ → List ℕ
 gradedLines fs records = gather (λ j. faultLine (faultAt fs j) (recordAt records j) (groupOf records j)) (faultCount fs)
 
+-- the number of records with a verdict
+unfoldable pub withVerdict : List ℕ → ℕ → ℕ
+withVerdict records v = countBelow (λ j. eqb (recordAt records j .verdict) v) (length records / 16)
+
+-- seven counts, for verdicts 1 to 7
+unfoldable pub sevenCounts : List ℕ → List ℕ
+sevenCounts records = tabulate (λ v. withVerdict records v) 1 7
+
+-- `total` and the seven counts
+unfoldable pub totalLine : List ℕ → List ℕ
+totalLine records = 116 ∷ 111 ∷ 116 ∷ 97 ∷ 108 ∷ 32 ∷ numberLine (sevenCounts records)
+
+-- after the last fault the total; a refused job has none
 unfoldable pub jobLines : Refusal → List ℕ → List ℕ → List ℕ
-jobLines none fs records = gradedLines fs records
+jobLines none fs records = gradedLines fs records ++ totalLine records
 jobLines (some r) fs records = refusedLine (r .0) (r .1)
 
 -- lends 65,536 bytes for each area, k = 6

@@ -1,13 +1,14 @@
--- What is promised of the bytes that Grade writes, for every accepted job, and of those that Choose writes; and what holds of the
--- definitions, so that they say what document 01 does. The theorems are in proofs/Theorems.
+-- What is promised of the bytes that Grade writes, for every accepted job, of the counts in its print, and of the bytes that Choose writes;
+-- and what holds of the definitions, so that they say what document 01 does. The theorems are in proofs/Theorems.
 use mathlib.Core.Path.{_≡_}
 use mathlib.Core.Logic.{_↔_}
-use Prim.Native.Nat.{ℕ, suc, _+_, _*_, _^_, _≤_, _<_}
+use Prim.Native.Nat.{ℕ, suc, _+_, _*_, _-_, _^_, _≤_, _<_}
 use mathlib.Core.Bool.{Bool, true, false, _||_}
 use mathlib.Core.List.{List}
 use mathlib.Core.Option.{none, some}
 use lib.ListN.{getD, length, take, drop}
 use lib.Dec.{eqb}
+use Rattle.lists.specs.Scan.{select, sum}
 use Rattle.model.specs.Inputs.{pinLine, flipFlopLine, F, L, Fault, faultCount, faultAt, planPair}
 use Rattle.model.specs.Refusals.{Answer, done, row11, gradeRefusal}
 use Rattle.model.specs.Values.{X, hasConflict}
@@ -81,6 +82,13 @@ pub record InBounds (k : ℕ) (v : Verdict) : Type 0 where
 -- the 16 bytes of record j
 abbrev pub recordPart : List ℕ → ℕ → List ℕ
 recordPart area j = take 16 (drop (16 * j) area)
+
+-- Of the seven counts under a job's lines: that for verdict v is the number of faults to which Grade gives it, and they sum to the number of
+-- faults.
+pub record Totals (c t fs p : List ℕ) (k : ℕ) (counts : List ℕ) : Type 0 where
+  pub seven : length counts ≡ 7
+  pub each : (v : ℕ) → 1 ≤ v → v ≤ 7 → getD counts (v - 1) 0 ≡ length (select (λ j. eqb (grade c t (faultAt fs j) p k .verdict) v) (faultCount fs))
+  pub all : sum counts ≡ faultCount fs
 
 -- Of a plan p of n pairs, read as Grade reads it: what holds of the bytes that Choose writes. There are up to k pairs, and Grade accepts them
 -- as a plan. Every pair is taken by Grade with the same k and just these pairs as the plan. None that could be taken in its place is better.

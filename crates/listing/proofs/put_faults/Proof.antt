@@ -48,7 +48,9 @@ loop-again c =
     )
 
 returns : tie.Need-returns Inv-loop μ-loop
-returns c = let inv = c .before .loop .inv in lines-all _ _ _ (omega (arith, inv .0, c .loop-test .left)) (inv .3)
+returns c =
+    let inv = c .before .loop .inv in
+    (lines-all _ _ _ (omega (arith, inv .0, c .loop-test .left)) (inv .3), omega (arith, inv .0, inv .1))
 
 pub put-faults-spec : {M : Type 1} → statement M
 put-faults-spec =

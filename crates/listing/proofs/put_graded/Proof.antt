@@ -4,6 +4,8 @@ use native.Mathlib.Omega.{arith}
 use borrow.Author.Needs.{needs}
 use lib.ListN.{length, take}
 use lib.Seq.{length-take-le}
+use Rattle.decimals.proofs.Laws.{put-then}
+use Rattle.listing.proofs.Laws.{put-same}
 use Rattle.listing.proofs.Groups.{graded-lines, fault-bytes}
 use Rattle.listing.proofs.put_graded.Statement.{statement}
 use Rattle.listing.proofs.put_graded.Tie as tie
@@ -18,7 +20,10 @@ grouped c = c .before .before .before .before .before
 abbrev cut : tie.After-write-groups-arg → tie.After-records
 cut c = c .before .before .before
 
-abbrev put : tie.After-slice-known2 → tie.After-put-faults
+abbrev listed : tie.After-put-total-arg → tie.After-put-faults
+listed c = c .before .before .before
+
+abbrev put : tie.After-slice-known3 → tie.After-put-total
 put c = c .before .before
 
 -- the records are as many bytes as they should be
@@ -43,15 +48,24 @@ put-faults-requires c κs =
       faults = fault-bytes _ _ (s .pre .0);
       recorded = omega (arith, long at);
       grouped = omega (arith, c .before .put-faults-arg2 .given .0, s .pre .1);
-      room = s .pre .2;
+      room = omega (arith, s .pre .2);
     }
+
+put-total-requires : tie.Need-put-total-requires
+put-total-requires c κs =
+    let lines = listed c in
+    let at = cut (grouped (lines .before) .before) in
+    (omega (arith, long at, start at .pre .1), omega (arith, lines .put-faults .ensures .1, start at .pre .2, c .before .before .out .given))
 
 returns : tie.Need-returns
 returns c =
-    let groups = grouped (put c .before) in
+    let lines = listed (put c .before) in
+    let groups = grouped (lines .before) in
     let at = cut (groups .before) in
     let s = start at in
-    rw (graded-lines _ _ _ _ _ (s .pre .0) (long at) (s .pre .1) (groups .write-groups .ensures)) at (put c .put-faults .ensures)
+    put-then
+    (put-same (graded-lines _ _ _ _ _ (s .pre .0) (long at) (s .pre .1) (groups .write-groups .ensures)) (lines .put-faults .ensures .0))
+    (put c .put-total .ensures)
 
 pub put-graded-spec : {M : Type 1} → statement M
 put-graded-spec =
@@ -63,5 +77,6 @@ put-graded-spec =
     (λ c. search needs)
     write-groups-requires
     put-faults-requires
+    put-total-requires
     (λ c. search needs)
     returns)
