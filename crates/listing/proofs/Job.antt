@@ -1,6 +1,6 @@
 -- What Grade answers and writes, and the lines of the job.
 use mathlib.Core.Path.{_≡_, refl, ap, _∙_}
-use mathlib.Core.List.{List, _++_}
+use mathlib.Core.List.{List}
 use mathlib.Core.Option.{none, some}
 use Prim.Native.Nat.{ℕ, _*_, _≤_}
 use native.Mathlib.Omega.{arith}
@@ -10,7 +10,7 @@ use Rattle.lists.specs.Field.{overwritten}
 use Rattle.model.specs.Inputs.{faultCount}
 use Rattle.model.specs.Refusals.{Refusal, answer, gradeRefusal}
 use Rattle.model.specs.Grade.{gradeBytes, gradeAnswer, gradeArea}
-use Rattle.model.specs.Listing.{refusedLine, gradedLines, totalLine, jobLines}
+use Rattle.model.specs.Listing.{refusedLine, jobLines}
 use Rattle.model.proofs.Accepted.{gradeReady, area-done}
 use Rattle.model.proofs.Records.{length-gradeBytes}
 use Rattle.job.specs.Job.{answerOf}
@@ -35,7 +35,7 @@ pub record Graded (c t fs p : List ℕ) (r : Outcome) (area : List ℕ) : Type 0
   pub refused : (rule at : ℕ) → r ≡ Refused rule at → refusedLine rule at ≡ jobPrint c t fs p
   pub all : (n : ℕ) → r ≡ Done n → n ≡ faultCount fs
   pub few : (n : ℕ) → r ≡ Done n → n ≤ 4096
-  pub lines : (n : ℕ) → r ≡ Done n → gradedLines fs (take (16 * n) area) ++ totalLine (take (16 * n) area) ≡ jobPrint c t fs p
+  pub lines : (n : ℕ) → r ≡ Done n → jobLines none fs (take (16 * n) area) ≡ jobPrint c t fs p
 
 module _ (c t fs p : List ℕ) (work : ℕ) (old area : List ℕ) (w : work ≡ 65536) (l : length old ≡ 65536) {r : Outcome} (e : answerOf r ≡ gradeAnswer c t fs p 6 work (length old)) where
   refused-print : (rule at : ℕ) → r ≡ Refused rule at → refusedLine rule at ≡ jobPrint c t fs p
@@ -48,7 +48,7 @@ module _ (c t fs p : List ℕ) (work : ℕ) (old area : List ℕ) (w : work ≡ 
   unfolding gradeAnswer
   accepted n d = done-none (faultCount fs) _ n e d
 
-  graded-print : area ≡ gradeArea c t fs p 6 work old → (n : ℕ) → r ≡ Done n → gradedLines fs (take (16 * n) area) ++ totalLine (take (16 * n) area) ≡ jobPrint c t fs p
+  graded-print : area ≡ gradeArea c t fs p 6 work old → (n : ℕ) → r ≡ Done n → jobLines none fs (take (16 * n) area) ≡ jobPrint c t fs p
   unfolding gradeArea overwritten jobPrint jobLines
   graded-print a n d =
       let passed = accepted n d .0 in

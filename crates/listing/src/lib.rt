@@ -1,12 +1,12 @@
 // What the program prints, from what it has read of its four files: `too long` and a name, `refused` and two numbers, or a line for each fault and
 // the total.
 ghost use mathlib.Core.Path.{_≡_};
-ghost use mathlib.Core.List.{_++_};
+ghost use mathlib.Core.Option.{none};
 ghost use Prim.Native.Nat.{_+_, _*_, _≤_};
 ghost use lib.ListN.{length, take};
 ghost use Rattle.lists.specs.Scan.{tabulate};
 ghost use Rattle.model.specs.Inputs.{faultCount};
-ghost use Rattle.model.specs.Listing.{numberLine, refusedLine, tooLongLine, gradedLines, withVerdict, totalLine};
+ghost use Rattle.model.specs.Listing.{numberLine, refusedLine, tooLongLine, withVerdict, totalLine, jobLines};
 ghost use Rattle.decimals.specs.Put.{Put};
 ghost use Rattle.listing.specs.Print.{faultFields, FieldsOf, linesBelow, Listable, PrintRoom, jobPrint, Printed};
 use job::Outcome;
@@ -133,8 +133,8 @@ fn put_total(records: &[u8], out: &mut [u8], at: usize) -> usize
     decimals::put_line(out, words, &counts[1..8])
 }
 
-// The lines of a job that Grade has accepted, and the total: its records stand at the beginning of the result area. They are 4,096 at most, so their groups
-// are written with less room than Group itself makes.
+// The lines of a job that Grade has accepted, whose records stand at the beginning of the result area, and the total. They are 4,096 at most, so
+// their groups are written with less room than Group itself makes.
 fn put_graded(
     faults: &[u8],
     count: usize,
@@ -143,7 +143,7 @@ fn put_graded(
     out: &mut [u8],
 ) -> usize
     requires { ⌜ (count ≡ faultCount (now faults)) × (count ≤ 4096) × (72 * count + 48 ≤ length (now out)) ⌝ }
-    ensures { λ r. ⌜ Put 0 r (gradedLines (now (faults .entry)) (take (16 * count) (now (result .entry))) ++ totalLine (take (16 * count) (now (result .entry)))) (now (out .entry)) (now (out .exit)) ⌝ }
+    ensures { λ r. ⌜ Put 0 r (jobLines none (now (faults .entry)) (take (16 * count) (now (result .entry)))) (now (out .entry)) (now (out .exit)) ⌝ }
 {
     let area = &result[..];
     let end = 16 * count;

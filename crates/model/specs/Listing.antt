@@ -59,7 +59,7 @@ tooLong file name = cond (ltb 65536 (length file)) (some (tooLongLine name)) non
 unfoldable pub gradedLines : List ℕ → List ℕ → List ℕ
 gradedLines fs records = gather (λ j. faultLine (faultAt fs j) (recordAt records j) (groupOf records j)) (faultCount fs)
 
--- the number of records with a verdict
+-- the number of records with verdict v
 unfoldable pub withVerdict : List ℕ → ℕ → ℕ
 withVerdict records v = countBelow (λ j. eqb (recordAt records j .verdict) v) (length records / 16)
 

@@ -4,6 +4,7 @@ use native.Mathlib.Omega.{arith}
 use borrow.Author.Needs.{needs}
 use lib.ListN.{length, take}
 use lib.Seq.{length-take-le}
+use Rattle.model.specs.Listing.{jobLines}
 use Rattle.decimals.proofs.Laws.{put-then}
 use Rattle.listing.proofs.Laws.{put-same}
 use Rattle.listing.proofs.Groups.{graded-lines, fault-bytes}
@@ -58,6 +59,7 @@ put-total-requires c κs =
     (omega (arith, long at, start at .pre .1), omega (arith, lines .put-faults .ensures .1, start at .pre .2, c .before .before .out .given))
 
 returns : tie.Need-returns
+unfolding jobLines
 returns c =
     let lines = listed (put c .before) in
     let groups = grouped (lines .before) in
