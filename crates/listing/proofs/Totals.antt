@@ -16,11 +16,11 @@ use Rattle.decimals.specs.Put.{Below}
 use Rattle.decimals.proofs.Laws.{line-short}
 
 module _ (records : List ℕ) where
-  -- how many of the first n records have a verdict
+  -- how many of the first n records have verdict v
   abbrev among : ℕ → ℕ → ℕ
   among n v = countBelow (λ j. eqb (recordAt records j .verdict) v) n
 
-  -- that for every byte
+  -- that for each of the 256 values of a byte
   unfoldable pub countsOf : ℕ → List ℕ
   countsOf n = tabulate (among n) 0 256
 

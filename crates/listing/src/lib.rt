@@ -133,7 +133,7 @@ fn put_total(records: &[u8], out: &mut [u8], at: usize) -> usize
     decimals::put_line(out, words, &counts[1..8])
 }
 
-// The lines of a job that Grade has accepted, whose records stand at the beginning of the result area, and the total. They are 4,096 at most, so
+// The lines of a job that Grade has accepted, and the total. Its records stand at the beginning of the result area; they are 4,096 at most, so
 // their groups are written with less room than Group itself makes.
 fn put_graded(
     faults: &[u8],

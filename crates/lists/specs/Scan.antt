@@ -1,6 +1,6 @@
 -- Scans over the numbers below a bound: the first that passes a test, whether any does, how many do, which do; and lists made of them, with
 -- their sum.
--- All have the highest number last, as a loop does; `tabulate` recurses from the front, the others from the back.
+-- All have the highest number last, as a loop does; `tabulate` and `sum` recurse from the front, the others from the back.
 use Prim.Native.Nat.{ℕ, zero, suc, _+_}
 use mathlib.Core.Bool.{Bool, false, cond, _||_}
 use mathlib.Core.List.{List, [], _∷_, _++_}
@@ -50,6 +50,7 @@ unfoldable pub tabulate : {A : Type 0} → (ℕ → A) → ℕ → ℕ → List 
 tabulate g from zero = []
 tabulate g from (suc n) = g from ∷ tabulate g (suc from) n
 
+-- the sum of a list
 unfoldable pub sum : List ℕ → ℕ
 sum [] = 0
 sum (n ∷ ns) = n + sum ns

@@ -1,5 +1,5 @@
 -- What calls return, what areas hold afterwards, and what the program prints, computed on small inputs. The expected results are those of
--- an independent grader, or read off document 01; above a job stand misreadings that it tells apart.
+-- an independent grader, or read off the documents; above a job stand misreadings that it tells apart.
 use mathlib.Core.Path.{_≡_, refl}
 use mathlib.Core.List.{[], _∷_, _++_}
 use lib.ListN.{replicate}

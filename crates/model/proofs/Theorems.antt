@@ -1,15 +1,15 @@
--- The theorems, for every accepted job. What `reads-back`, `own-fault`, `fault-free` and `graded-groups` say is stated here alone, what the
--- others say in specs/Promises.
+-- The theorems, for every accepted job. What `reads-back`, `total-printed`, `own-fault`, `fault-free` and `graded-groups` say is stated here
+-- alone, what the others say in specs/Promises.
 use mathlib.Core.Path.{_≡_, sym, ap, _∙_}
-use Prim.Native.Nat.{ℕ, _+_, _*_, _-_, _/_, _<_}
-use mathlib.Core.List.{List}
-use mathlib.Core.Option.{none}
+use Prim.Native.Nat.{ℕ, _+_, _*_, _-_, _/_, _≤_, _<_}
+use mathlib.Core.List.{List, _++_}
+use mathlib.Core.Option.{none, orElse}
 use lib.ListN.{length, take}
 use lib.Seq.{take-at}
 use lib.Dec.{eqb}
 use native.Mathlib.Omega.{arith}
 use mathlib.Core.Bool.{false}
-use borrow.Author.Tests.{ne-eqb}
+use borrow.Author.Tests.{ne-eqb, le-ltb}
 use Rattle.model.specs.Inputs.{N, Fault, faultCount, faultAt}
 use Rattle.model.specs.Refusals.{circuitRows, inputRows, gradeRefusal, chooseRefusal, groupRefusal}
 use Rattle.model.specs.Accepted.{ValidCircuit, GradeReady, ChooseReady}
@@ -19,7 +19,7 @@ use Rattle.lists.specs.Scan.{countBelow, sum}
 use Rattle.lists.specs.Field.{overwritten}
 use Rattle.lists.proofs.Scan.{countBelow-same, length-select, length-tabulate, getD-tabulate, tabulate-same}
 use Rattle.lists.proofs.Counts.{counts-sum}
-use Rattle.model.specs.Listing.{withVerdict, sevenCounts}
+use Rattle.model.specs.Listing.{tooLong, gradedLines, withVerdict, sevenCounts, totalLine, jobLines, printed}
 use Rattle.model.specs.Choose.{chosen, planBytes, chooseAnswer, chooseArea}
 use Rattle.model.specs.Promises.{EveryStart, Demand3, InBounds, recordPart, Totals, WellChosen, ChoosesWell, PinsOpen, ClearLists}
 use Rattle.model.proofs.Accepted.{validCircuit, validInputs, faultJob, gradeReady, chooseReady, answered, area-done}
@@ -73,6 +73,12 @@ module _ (c t fs p : List ℕ) (k work result : ℕ) (e : gradeRefusal c t fs p 
         all = ap sum (tabulate-same _ _ 1 7 (λ v _ _. verdict-count v)) ∙ counts-sum verdictOf 1 7 (faultCount fs)
             (λ j _. let b = verdict-bounds c t fs p k work result e (faultAt fs j) in (b .low, omega (arith, b .high)));
       }
+
+-- the print of an accepted job, where no file is too long: the lines of its faults, and then the total, whose counts are those above
+pub total-printed : (c t fs p : List ℕ) → length c ≤ 65536 → length t ≤ 65536 → length fs ≤ 65536 → length p ≤ 65536
+    → gradeRefusal c t fs p 6 65536 65536 ≡ none → printed c t fs p ≡ gradedLines fs (gradeBytes c t fs p 6) ++ totalLine (gradeBytes c t fs p 6)
+unfolding printed tooLong jobLines orElse
+total-printed c t fs p lc lt lf lp e = rw (le-ltb 65536 (length c) lc, le-ltb 65536 (length t) lt, le-ltb 65536 (length fs) lf, le-ltb 65536 (length p) lp, e)
 
 -- a record depends on its own fault, never on others in the list
 pub own-fault : (c t fs gs p : List ℕ) (k work room : ℕ) (old held : List ℕ)
