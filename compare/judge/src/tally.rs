@@ -71,7 +71,7 @@ impl Tally {
 
     pub fn print(&self) {
         println!(
-            "{} jobs, {} damaged, {} too long, {} without a fault",
+            "{} jobs, {} damaged, {} too long, {} accepted without a fault",
             self.jobs, self.damaged, self.too_long, self.without_faults
         );
         println!("records with verdicts 1 to 7: {:?}", &self.verdicts[1..]);
