@@ -2,7 +2,6 @@
 use mathlib.Core.Path.{_≡_, refl, sym, ap, _∙_}
 use mathlib.Core.Bool.{true, false, cond, _&&_}
 use mathlib.Core.List.{List, [], _∷_, _++_, append-nil, append-assoc}
-use mathlib.Core.Option.{none, some}
 use Prim.Native.Nat.{ℕ, suc, _+_, _*_, _/_, _≤_, _<_}
 use native.Mathlib.Omega.{arith}
 use native.Mathlib.Decide.{decLe}
@@ -17,10 +16,6 @@ use Rattle.lists.proofs.Scan.{first-lowest, first-fails, length-gather, gather-
 use Rattle.lists.proofs.Field.{overwritten-none, overwritten-more}
 use Rattle.model.specs.Grade.{recordAt}
 use Rattle.model.specs.Group.{alike, groupOf, groupBytes}
-use Rattle.model.specs.Refusals.{Refusal}
-use Rattle.rules.specs.Check.{refusalOf}
-use Rattle.rules.specs.declared.Check.{Check}
-use Rattle.rules.specs.declared.Check.the-variants.{Passed, Broken}
 use Rattle.group.specs.Groups.{KeyOf, Groups, Sought, GroupsTo}
 
 -- ---- keys
@@ -149,15 +144,3 @@ written-more {vs} {old} {area} {j = j} v to same e room = record {
 pub written-all : {vs old area : List ℕ} {n : ℕ} → n ≡ length vs / 16 → GroupsTo vs n old area → area ≡ overwritten (groupBytes vs) old
 unfolding groupBytes
 written-all e to = rw (← e) (to .all)
-
--- ---- the check's answer
-module _ {rows : Refusal} {r : Check} where
-  -- records that are passed break no row
-  pub passed-none : refusalOf r ≡ rows → r ≡ Passed → rows ≡ none
-  unfolding refusalOf
-  passed-none checked e = sym checked ∙ ap refusalOf e
-
-  -- those that are not break the row that is named
-  pub broken-some : {rule at : ℕ} → refusalOf r ≡ rows → r ≡ Broken rule at → rows ≡ some (rule, at)
-  unfolding refusalOf
-  broken-some checked e = sym checked ∙ ap refusalOf e

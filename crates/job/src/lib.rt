@@ -1,4 +1,4 @@
-// Rows 7 to 15 of the table of refusals, and for each call the rows that it takes, joined as the table joins them: the first that is
+// Rows 7 to 17 of the table of refusals, and for each call the rows that it takes, joined as the table joins them: the first that is
 // broken. A row that would use what a row above has not yet allowed is looked at only after it.
 ghost use mathlib.Core.List.{List};
 ghost use mathlib.Core.Path.{_≡_};
@@ -6,9 +6,10 @@ ghost use Prim.Native.Nat.{ℕ, _+_, _*_, _<_, _≤_};
 ghost use lib.ListN.{length};
 ghost use Rattle.lists.specs.Scan.{_else_};
 ghost use Rattle.model.specs.Inputs.{N, I, faultAt};
-ghost use Rattle.model.specs.Refusals.{row7, row8, row9, faultFits, row10, row11, row12, row13, row14, inputRows, simulateRefusal, gradeRefusal, chooseRefusal, groupRefusal};
+ghost use Rattle.model.specs.Refusals.{row7, row8, row9, faultFits, row10, row11, row12, row13, row14, row16, row17, inputRows, simulateRefusal, gradeRefusal, chooseRefusal, groupRefusal, answer};
+ghost use Rattle.model.specs.Generate.{generateAnswer};
 ghost use Rattle.rules.specs.Check.{refusalOf};
-ghost use Rattle.job.specs.Job.{JobOf, JobChecked, Unless, Limited};
+ghost use Rattle.job.specs.Job.{answerOf, JobOf, JobChecked, Unless, Limited};
 use rules::Check;
 use rules::CircuitCheck;
 
@@ -209,4 +210,35 @@ pub fn check_group(verdicts: &[u8], result: usize) -> Check
     let size = verdicts.len();
     let wrong = basics::either(size % 16 != 0, 524288 < size);
     Check::refuse(wrong, 15, 0).or(Check::refuse(result < 2 * (size / 16), 14, 0))
+}
+
+// Rows 16 and 17.
+fn check_load(seed: u16, units: usize) -> Check
+    ensures { λ r. ⌜ refusalOf r ≡ (row16 seed else row17 units) ⌝ }
+{
+    let wrong = basics::either(units == 0, 1024 < units);
+    Check::refuse(seed == 0, 16, 0).or(Check::refuse(wrong, 17, 0))
+}
+
+// Row 14 of a call that writes so many bytes and returns their number.
+fn check_result(size: usize, result: usize) -> Outcome
+    ensures { λ r. ⌜ answerOf r ≡ answer (row14 size result) size ⌝ }
+{
+    if result < size {
+        return Outcome::Refused { rule: 14, at: 0 };
+    }
+    Outcome::Done(size)
+}
+
+// Generate: rows 1 to 6, 16, 17 and 14, and where none is broken the number of bytes, which is what the call returns.
+pub fn check_generate(c: &[u8], seed: u16, units: usize, result: usize) -> Outcome
+    ensures { λ r. ⌜ answerOf r ≡ generateAnswer (now (c .entry)) seed units result ⌝ }
+{
+    match rules::check_circuit(c) {
+        CircuitCheck::Broken { rule, at } => Outcome::Refused { rule, at },
+        CircuitCheck::Sized(s) => match check_load(seed, units) {
+            Check::Broken { rule, at } => Outcome::Refused { rule, at },
+            Check::Passed => check_result(units * s.inputs, result),
+        },
+    }
 }

@@ -53,6 +53,12 @@ firstAnswer-none g (suc n) m e h =
     let d : (firstAnswer g n ≡ none) × (g n ≡ none) = orElse-eq-none (firstAnswer g n) (g n) .0 e in
     elim (decLe (suc m) n) [ yes q ↦ firstAnswer-none g n m (d .0) q | no q ↦ (let r : m ≡ n = omega arith in rw r (d .1)) ]
 
+pub firstAnswer-passed : {A : Type 0} (g : ℕ → Option A) (n : ℕ) → ((m : ℕ) → m < n → g m ≡ none) → firstAnswer g n ≡ none
+unfolding firstAnswer
+firstAnswer-passed g zero h = refl
+firstAnswer-passed g (suc n) h =
+    orElse-eq-none (firstAnswer g n) (g n) .1 (firstAnswer-passed g n (λ m l. h m (omega arith)), h n (omega arith))
+
 -- ---- the lowest number
 cond-some : (t : Bool) (n m : ℕ) → cond t (some n) none ≡ some m → (t ≡ true) × (n ≡ m)
 cond-some true n m e = (refl, Option·some-injective n m e)

@@ -13,8 +13,8 @@ use native.Mathlib.Nat.{div-add-mod', zero-mul}
 use borrow.Author.Tests.{eqb-true, leb-true, leb-false, ltb-true, ltb-false, not-false, ne-eqb, le-leb, lt-leb}
 use Rattle.lists.specs.Scan.{firstAnswer}
 use Rattle.model.specs.Inputs.{N, kind, pinCount, pinLine, isFlipFlop, isGate, I, F, O, L, Fault, faultCount, faultAt, planCount}
-use Rattle.model.specs.Refusals.{Refusal, Answer, done, refused, answer, unlessRefused, refuse, row1, pinsFit, strayBytes, misnamed, misnames, rows2to5, row6, circuitRows, row7, row8, row9, faultFits, row10, row11, row12, row15, workBytes, row13, row14, inputRows, simulateRefusal, gradeRefusal, chooseRefusal, groupRefusal}
-use Rattle.model.specs.Accepted.{ValidCircuit, ValidTest, ValidFault, ValidInputs, SimulateReady, GradeReady, ChooseReady, GroupReady}
+use Rattle.model.specs.Refusals.{Refusal, Answer, done, refused, answer, unlessRefused, refuse, row1, pinsFit, strayBytes, misnamed, misnames, rows2to5, row6, circuitRows, row7, row8, row9, faultFits, row10, row11, row12, row15, workBytes, row13, row14, row16, row17, inputRows, simulateRefusal, gradeRefusal, chooseRefusal, groupRefusal, generateRefusal}
+use Rattle.model.specs.Accepted.{ValidCircuit, ValidTest, ValidFault, ValidInputs, SimulateReady, GradeReady, ChooseReady, GroupReady, GenerateReady}
 use Rattle.lists.proofs.Tests.{and-left, and-right, or-left-false, or-right-false}
 use Rattle.lists.proofs.Scan.{firstAnswer-none, anyBelow-false}
 use Rattle.model.proofs.Total.{TotalRow, bit-total}
@@ -217,7 +217,7 @@ validJob {t = t} circuit test fault = record {
 pub faultJob : {c t fs : List ℕ} {least most : ℕ} → ValidInputs c t least most fs → (j : ℕ) → j < faultCount fs → FaultJob c t (faultAt fs j)
 faultJob valid j h = validJob (valid .circuit) (valid .test) (valid .fault j h)
 
--- ---- plan, k and the two areas
+-- ---- plan, k, the two areas, seed and time units
 pub plan-fits : (p : List ℕ) → row11 p ≡ none → (length p ≡ 4 * planCount p) × (planCount p ≤ 4096)
 unfolding row11 planCount
 plan-fits p e =
@@ -236,6 +236,16 @@ work-fits c t work e = ltb-false work _ (refuse-none _ 13 0 e)
 pub result-fits : (size result : ℕ) → row14 size result ≡ none → size ≤ result
 unfolding row14
 result-fits size result e = ltb-false result size (refuse-none _ 14 0 e)
+
+pub seed-fits : (seed : ℕ) → row16 seed ≡ none → 0 < seed
+unfolding row16
+seed-fits seed e = positive _ (refuse-none _ 16 0 e)
+
+pub units-fit : (units : ℕ) → row17 units ≡ none → (0 < units) × (units ≤ 1024)
+unfolding row17
+units-fit units e =
+    let size : eqb units 0 || ltb 1024 units ≡ false = refuse-none _ 17 0 e in
+    (positive _ (or-left-false _ (ltb 1024 units) size), ltb-false 1024 units (or-right-false (eqb units 0) _ size))
 
 -- ---- the calls
 pub simulateReady : (c t fs : List ℕ) (work result : ℕ) → simulateRefusal c t fs work result ≡ none → SimulateReady c t fs work result
@@ -286,16 +296,40 @@ groupReady vs result e =
       resultRoom = result-fits _ result (a .1);
     }
 
+pub generateReady : (c : List ℕ) (seed units result : ℕ) → generateRefusal c seed units result ≡ none → GenerateReady c seed units result
+unfolding generateRefusal
+generateReady c seed units result e =
+    let a = orElse-eq-none (circuitRows c) _ .0 e in
+    let b = orElse-eq-none (row16 seed) _ .0 (a .1) in
+    let d = orElse-eq-none (row17 units) _ .0 (b .1) in
+    record {
+      circuit = validCircuit c (a .0);
+      seeded = seed-fits seed (b .0);
+      some = units-fit units (d .0) .0;
+      most = units-fit units (d .0) .1;
+      resultRoom = result-fits _ result (d .1);
+    }
+
 -- ---- what a call returns and leaves in its result area, accepted or refused
 sizeOf : Answer → Option ℕ
 sizeOf (done n) = some n
 sizeOf (refused a b) = none
+
+placeOf : Answer → Refusal
+placeOf (done n) = none
+placeOf (refused a b) = some (a, b)
 
 -- a call that is done was not refused
 pub answered : (r : Refusal) (size n : ℕ) → answer r size ≡ done n → (r ≡ none) × (size ≡ n)
 unfolding answer sizeOf
 answered none size n e = (refl, ap (λ a. Option·getD (sizeOf a) 0) e)
 answered (some q) size n e = absurd (Option·none-ne-some n (ap sizeOf e))
+
+-- one that is refused was refused by that row
+pub turned-away : (r : Refusal) (size number position : ℕ) → answer r size ≡ refused number position → r ≡ some (number, position)
+unfolding answer sizeOf placeOf
+turned-away none size number position e = absurd (Option·some-ne-none size (ap sizeOf e))
+turned-away (some q) size number position e = ap placeOf e
 
 module _ (r : Refusal) where
   pub answer-done : (size : ℕ) → r ≡ none → answer r size ≡ done size

@@ -8,6 +8,7 @@ use Rattle.model.specs.Simulate.{simulateAnswer, simulateArea}
 use Rattle.model.specs.Grade.{gradeAnswer, gradeArea}
 use Rattle.model.specs.Choose.{chooseAnswer, chooseArea}
 use Rattle.model.specs.Group.{groupAnswer, groupArea}
+use Rattle.model.specs.Generate.{generateAnswer, generateArea}
 use Rattle.model.specs.Listing.{printed}
 use Rattle.model.specs.Specimens.{circuitOf, specimenA, specimenB, specimenD, faultsOfA}
 use Rattle.model.proofs.Computed.{computes}
@@ -112,6 +113,32 @@ pub held-rows :
     × (groupArea ((2 ∷ 0 ∷ 1 ∷ []) ++ replicate 13 0 ++ (2 ∷ 0 ∷ 2 ∷ []) ++ replicate 13 0) (replicate 4 7) ≡ 0 ∷ 0 ∷ 1 ∷ 0 ∷ [])
 unfolding computes
 held-rows = (refl, refl, refl, refl)
+
+-- what Generate returns and writes
+pub generated :
+    -- the seed before the circuit; 17 before 16; 14 before 16
+    (generateAnswer [] 0 0 0 ≡ refused 1 0)
+    × (generateAnswer specimenB 0 0 0 ≡ refused 16 0)
+    × (generateAnswer specimenB 0 1 0 ≡ refused 16 0)
+    -- L in 16 bits; 14 before 17; 17 allows 1,025, or 0
+    × (generateAnswer specimenB 1 65537 1 ≡ refused 17 0)
+    × (generateAnswer specimenB 1 1025 0 ≡ refused 17 0)
+    × (generateAnswer specimenB 1 1025 1025 ≡ refused 17 0)
+    × (generateAnswer specimenB 1 0 0 ≡ refused 17 0)
+    -- 14 of L bytes; 14 asks one byte less
+    × (generateAnswer (circuitOf ((0, 1, []) ∷ (0, 0, []) ∷ [])) 1 3 5 ≡ refused 14 0)
+    -- 17 refuses 1,024; it returns the time units
+    × (generateAnswer (circuitOf ((0, 1, []) ∷ (0, 0, []) ∷ [])) 65535 1024 2048 ≡ done 2048)
+    -- another mask; the seed's own bit first; the bit shifted out; a shift left; a step per record; a byte per line; bytes past the result
+    -- cleared
+    × (generateArea (circuitOf ((0, 1, []) ∷ (1, 0, 0 ∷ []) ∷ (0, 0, []) ∷ [])) 0xace1 5 (replicate 12 170)
+    ≡ 0 ∷ 0 ∷ 0 ∷ 0 ∷ 1 ∷ 1 ∷ 1 ∷ 0 ∷ 0 ∷ 1 ∷ 170 ∷ 170 ∷ [])
+    -- the mask by a test of the new number's lowest bit
+    × (generateArea specimenB 1 12 (replicate 12 170) ≡ 0 ∷ 0 ∷ 0 ∷ 0 ∷ 0 ∷ 0 ∷ 0 ∷ 0 ∷ 0 ∷ 0 ∷ 1 ∷ 0 ∷ [])
+    -- a refusal that writes
+    × (generateArea specimenB 0xace1 4 (replicate 3 170) ≡ replicate 3 170)
+unfolding computes
+generated = (refl, refl, refl, refl, refl, refl, refl, refl, refl, refl, refl, refl)
 
 -- what the program prints
 pub prints :

@@ -22,4 +22,5 @@ pub mod ThreeValued
 pub mod Open
 pub mod Pending
 pub mod Apart
+pub mod Generate
 pub mod Theorems

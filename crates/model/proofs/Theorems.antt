@@ -1,6 +1,6 @@
--- The theorems, for every accepted job. What `reads-back`, `total-printed`, `own-fault`, `fault-free` and `graded-groups` say is stated here
+-- The theorems, for every accepted job. What `reads-back`, `total-printed`, `own-fault`, `fault-free`, `graded-groups` and `step-of-ACE1` say is stated here
 -- alone, what the others say in specs/Promises.
-use mathlib.Core.Path.{_≡_, sym, ap, _∙_}
+use mathlib.Core.Path.{_≡_, refl, sym, ap, _∙_}
 use Prim.Native.Nat.{ℕ, _+_, _*_, _-_, _/_, _≤_, _<_}
 use mathlib.Core.List.{List, _++_}
 use mathlib.Core.Option.{none, orElse}
@@ -10,9 +10,9 @@ use lib.Dec.{eqb}
 use native.Mathlib.Omega.{arith}
 use mathlib.Core.Bool.{false}
 use borrow.Author.Tests.{ne-eqb, le-ltb}
-use Rattle.model.specs.Inputs.{N, Fault, faultCount, faultAt}
-use Rattle.model.specs.Refusals.{circuitRows, inputRows, gradeRefusal, chooseRefusal, groupRefusal}
-use Rattle.model.specs.Accepted.{ValidCircuit, GradeReady, ChooseReady}
+use Rattle.model.specs.Inputs.{N, I, Fault, faultCount, faultAt}
+use Rattle.model.specs.Refusals.{circuitRows, inputRows, gradeRefusal, chooseRefusal, groupRefusal, generateRefusal}
+use Rattle.model.specs.Accepted.{ValidCircuit, GradeReady, ChooseReady, GenerateReady}
 use Rattle.model.specs.Simulation.{noFault, isStuck}
 use Rattle.model.specs.Grade.{grade, recordBytes, recordAt, gradeBytes, gradeArea}
 use Rattle.lists.specs.Scan.{countBelow, sum}
@@ -21,8 +21,9 @@ use Rattle.lists.proofs.Scan.{countBelow-same, length-select, length-tabulate, 
 use Rattle.lists.proofs.Counts.{counts-sum}
 use Rattle.model.specs.Listing.{tooLong, gradedLines, withVerdict, sevenCounts, totalLine, jobLines, printed}
 use Rattle.model.specs.Choose.{chosen, planBytes, chooseAnswer, chooseArea}
-use Rattle.model.specs.Promises.{EveryStart, Demand3, InBounds, recordPart, Totals, WellChosen, ChoosesWell, PinsOpen, ClearLists}
-use Rattle.model.proofs.Accepted.{validCircuit, validInputs, faultJob, gradeReady, chooseReady, answered, area-done}
+use Rattle.model.specs.Generate.{step, generateBytes, generateAnswer, generateArea}
+use Rattle.model.specs.Promises.{EveryStart, Demand3, InBounds, recordPart, Totals, WellChosen, ChoosesWell, PinsOpen, ClearLists, GeneratesTest, NeverZero}
+use Rattle.model.proofs.Accepted.{validCircuit, validInputs, faultJob, gradeReady, chooseReady, generateReady, answered, area-done}
 use Rattle.model.proofs.Promise.{promise}
 use Rattle.model.proofs.Bounds.{bounds}
 use Rattle.model.proofs.Records.{length-gradeBytes, bytes-record, group-accepts, area-part, area-record}
@@ -30,6 +31,7 @@ use Rattle.model.proofs.Choose.{length-plan, well-chosen}
 use Rattle.model.proofs.Starts.{every-start}
 use Rattle.model.proofs.Open.{pins-open}
 use Rattle.model.proofs.Apart.{sequence-clear}
+use Rattle.model.proofs.Generate.{length-generated, generated, never-zero}
 
 verdict-bounds : (c t fs p : List ℕ) (k work result : ℕ) → gradeRefusal c t fs p k work result ≡ none → (f : Fault) → InBounds k (grade c t f p k)
 verdict-bounds c t fs p k work result e f =
@@ -127,3 +129,23 @@ module _ (c t fs : List ℕ) (least most : ℕ) (e : inputRows c t least most fs
   -- no list of a sequence has a conflict
   pub clear-lists : ClearLists c t (faultAt fs j)
   clear-lists = let valid = validInputs c t least most fs e in sequence-clear c t (faultAt fs j) (valid .test) (valid .fault j h)
+
+-- Generate's test, of the bytes that it writes
+pub generates-test : (c : List ℕ) (seed units : ℕ) (old : List ℕ) → GeneratesTest c units (generateAnswer c seed units (length old)) (generateArea c seed units old)
+unfolding generateAnswer generateArea overwritten
+generates-test c seed units old n e =
+    let test = generateBytes c seed units in
+    let done = answered (generateRefusal c seed units (length old)) (units * I c) n e in
+    let ready : GenerateReady c seed units (length old) = generateReady c seed units (length old) (done .0) in
+    let front : take (units * I c) (generateArea c seed units old) ≡ test =
+    ap (take (units * I c)) (area-done _ _ _ (done .0)) ∙ take-at test _ (units * I c) (length-generated c seed units) in
+    rw (← done .1, front) (generated c seed units (ready .circuit .someInput) (ready .some) (ready .most))
+
+-- the number that makes an accepted test is never zero
+pub number-above : (c : List ℕ) (seed units result : ℕ) → seed < 65536 → generateRefusal c seed units result ≡ none → NeverZero seed
+number-above c seed units result h e = never-zero seed (generateReady c seed units result e .seeded) h
+
+-- seed hexadecimal ACE1 steps to E270
+pub step-of-ACE1 : step 0xace1 ≡ 0xe270
+unfolding step
+step-of-ACE1 = refl

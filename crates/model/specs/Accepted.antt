@@ -75,6 +75,14 @@ pub record GroupReady (vs : List ℕ) (result : ℕ) : Type 0 where
   pub most : length vs ≤ 524288
   pub resultRoom : 2 * (length vs / 16) ≤ result
 
+-- of a job that Generate accepts
+pub record GenerateReady (c : List ℕ) (seed units result : ℕ) : Type 0 where
+  pub circuit : ValidCircuit c
+  pub seeded : 0 < seed
+  pub some : 0 < units
+  pub most : units ≤ 1024
+  pub resultRoom : units * I c ≤ result
+
 -- every value of a row is 0, 1 or X
 pub record ThreeValued (vs : List ℕ) : Type 0 where
   pub at : (m : ℕ) → getD vs m X ≤ 2

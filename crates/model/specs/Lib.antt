@@ -1,4 +1,4 @@
--- Document 01 as definitions, in its order, and the statements of what is proved of them.
+-- Document 01 as definitions, in its order, then what document 02 adds to it, and the statements of what is proved of them.
 pub mod Inputs
 pub mod Refusals
 pub mod Accepted
@@ -13,5 +13,6 @@ pub mod Grade
 pub mod Choose
 pub mod Group
 pub mod Listing
+pub mod Generate
 pub mod Specimens
 pub mod Promises

@@ -1,5 +1,5 @@
--- What is promised of the bytes that Grade writes, for every accepted job, of the counts in its print, and of the bytes that Choose writes;
--- and what holds of the definitions, so that they say what document 01 does. The theorems are in proofs/Theorems.
+-- What is promised of the bytes that Grade writes, for every accepted job, of the counts in its print, and of the bytes that Choose and
+-- Generate write; and what holds of the definitions, so that they say what document 01 does. The theorems are in proofs/Theorems.
 use mathlib.Core.Path.{_≡_}
 use mathlib.Core.Logic.{_↔_}
 use Prim.Native.Nat.{ℕ, suc, _+_, _*_, _-_, _^_, _≤_, _<_}
@@ -10,7 +10,7 @@ use lib.ListN.{getD, length, take, drop}
 use lib.Dec.{eqb}
 use Rattle.lists.specs.Scan.{select, sum}
 use Rattle.model.specs.Inputs.{pinLine, flipFlopLine, F, L, Fault, faultCount, faultAt, planPair}
-use Rattle.model.specs.Refusals.{Answer, done, row11, gradeRefusal}
+use Rattle.model.specs.Refusals.{Answer, done, row7, row8, row11, gradeRefusal}
 use Rattle.model.specs.Values.{X, hasConflict}
 use Rattle.model.specs.Starts.{freeBits, startingState, startCount, differs}
 use Rattle.model.specs.Simulation.{plainValues}
@@ -18,6 +18,7 @@ use Rattle.model.specs.Expansion.{tried}
 use Rattle.model.specs.Sequences.{takes, takenOf, taken, sequenceRow}
 use Rattle.model.specs.Grade.{Verdict, recordAt, stage4, beforeStage5, grade}
 use Rattle.model.specs.Choose.{better}
+use Rattle.model.specs.Generate.{stepped}
 
 -- st gives each flip-flop's state bit 0 or 1
 pub record Setting (c st : List ℕ) : Type 0 where
@@ -119,3 +120,17 @@ pub record PinsOpen (c t : List ℕ) (f : Fault) : Type 0 where
 abbrev pub ClearLists : List ℕ → List ℕ → Fault → Type 0
 ClearLists c t f =
     stage4 c t f ≡ none → (p : List ℕ) (k b u : ℕ) → u < L c t → hasConflict (sequenceRow c t f (taken c t f p k) b u) ≡ false
+
+-- Of a test t of so many time units for circuit c: rows 7 and 8 accept it.
+pub record TestOf (c : List ℕ) (units : ℕ) (t : List ℕ) : Type 0 where
+  pub size : row7 c t ≡ none
+  pub bytes : row8 t ≡ none
+  pub whole : L c t ≡ units
+
+-- that of the bytes at the beginning of an area that Generate has written, as many as its answer says: a clause of Generate's contract
+abbrev pub GeneratesTest : List ℕ → ℕ → Answer → List ℕ → Type 0
+GeneratesTest c units answer new = (n : ℕ) → answer ≡ done n → TestOf c units (take n new)
+
+-- No step of a 16-bit seed other than zero makes zero, or a number with more than 16 bits.
+abbrev pub NeverZero : ℕ → Type 0
+NeverZero seed = (n : ℕ) → (0 < stepped seed n) × (stepped seed n < 65536)

@@ -101,6 +101,16 @@ row13 c t work = refuse (ltb work (workBytes c t)) 13 0
 unfoldable pub row14 : ℕ → ℕ → Refusal
 row14 size result = refuse (ltb result size) 14 0
 
+-- Document 02 has two rows more, for the call Generate.
+
+-- seed | 16 | zero
+unfoldable pub row16 : ℕ → Refusal
+row16 seed = refuse (eqb seed 0) 16 0
+
+-- time units | 17 | 0 or above 1,024
+unfoldable pub row17 : ℕ → Refusal
+row17 units = refuse (eqb units 0 || ltb 1024 units) 17 0
+
 -- The first that applies, down the table, is returned; a call skips rows on what it does not take.
 
 -- rows 1 to 10, which Simulate, Grade and Choose share
@@ -119,6 +129,10 @@ chooseRefusal c t fs k work result = inputRows c t 1 1 fs else row12 k else row1
 
 unfoldable pub groupRefusal : List ℕ → ℕ → Refusal
 groupRefusal vs result = row15 vs else row14 (2 * (length vs / 16)) result
+
+-- 16 is checked after the circuit, 17 next, then 14 for the area
+unfoldable pub generateRefusal : List ℕ → ℕ → ℕ → ℕ → Refusal
+generateRefusal c seed units result = circuitRows c else row16 seed else row17 units else row14 (units * I c) result
 
 -- What a call returns: how much it did, or number and position of the rule that the input breaks.
 pub data Answer : Type 0 where

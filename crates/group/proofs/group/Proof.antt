@@ -4,8 +4,8 @@ use lib.ListN.{length}
 use Rattle.model.specs.Refusals.{groupRefusal}
 use Rattle.model.specs.Group.{groupAnswer, groupArea}
 use Rattle.model.proofs.Accepted.{groupReady, answer-done, answer-refused, area-done, area-refused}
+use Rattle.rules.proofs.Laws.{passed-none, broken-some}
 use Rattle.job.specs.Job.{answerOf}
-use Rattle.group.proofs.Laws.{passed-none, broken-some}
 use borrow.Author.Needs.{needs}
 use Rattle.group.proofs.group.Statement.{statement}
 use Rattle.group.proofs.group.Tie as tie

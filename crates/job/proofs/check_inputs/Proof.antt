@@ -1,4 +1,4 @@
-use mathlib.Core.Path.{_≡_, sym, ap, _∙_}
+use mathlib.Core.Path.{_≡_, sym}
 use mathlib.Core.Option.{none}
 use Prim.Native.Nat.{_<_}
 use Rattle.lists.specs.Scan.{_else_}
@@ -7,7 +7,7 @@ use Rattle.model.specs.Inputs.{L}
 use Rattle.model.specs.Refusals.{circuitRows, row7, inputRows}
 use Rattle.model.proofs.Accepted.{validCircuit}
 use Rattle.circuit.specs.Table.{SizesOf}
-use Rattle.rules.specs.Check.{circuitRefusalOf}
+use Rattle.rules.proofs.Laws.{sized-none, unsized-some}
 use Rattle.job.specs.Job.{JobChecked}
 use Rattle.job.proofs.Laws.{is-ready, is-broken, joined, regrouped}
 use borrow.Author.Needs.{needs}
@@ -27,8 +27,7 @@ sizes : (c : tie.After-s) → SizesOf (start (c .before .before) .args .c .now) 
 sizes c = c .before .before .check-circuit .ensures .sizes _ (c .s .given .1)
 
 passed : (c : tie.After-s) → circuitRows (start (c .before .before) .args .c .now) ≡ none
-unfolding circuitRefusalOf
-passed c = sym (c .before .before .check-circuit .ensures .refusal) ∙ ap circuitRefusalOf (c .s .given .1)
+passed c = sized-none (c .before .before .check-circuit .ensures) (c .s .given .1)
 
 some-input : (c : tie.After-s) → 0 < c .s .given .0 .0 .inputs
 some-input c = rw (sizes c .inputs) (validCircuit _ (passed c) .someInput)
@@ -46,8 +45,8 @@ check-each-requires : tie.Need-check-each-requires
 check-each-requires c κs = let s = sized (tested c) in (rw (sizes s .lines) (validCircuit _ (passed s) .size), sizes s .lines)
 
 returns : tie.Need-returns
-unfolding circuitRefusalOf inputRows
-returns c = is-broken (else-found _ _ _ (sym (c .before .before .before .check-circuit .ensures .refusal) ∙ ap circuitRefusalOf (c .before .rule .given .1)))
+unfolding inputRows
+returns c = is-broken (else-found _ _ _ (unsized-some (c .before .before .before .check-circuit .ensures) (c .before .rule .given .1)))
 
 returns-2 : tie.Need-returns-2
 unfolding inputRows
