@@ -1,5 +1,5 @@
-// What a program needs around the calls: text, numbers, values and areas on standard output, a file read into an area, and a look at an area
-// that is to have kept the byte it was made of, as `[BLANK; 2048]` is. What is printed is tested, not proved.
+// What a program needs around the calls: text, numbers, values and areas on standard output, what is wrong on standard error, a file read into
+// an area, and a look at an area that is to have kept the byte it was made of, as `[BLANK; 2048]` is. What is printed is tested, not proved.
 ghost use mathlib.Core.Path.{_≡_};
 ghost use mathlib.Core.Bool.{true};
 ghost use Prim.Native.Nat.{_+_, _<_, _≤_};
@@ -20,9 +20,27 @@ pub fn text(bytes: &[u8]) {
     io::write_all(STDOUT_FILENO, bytes);
 }
 
+// Bytes that are all a program has to write; where they cannot be written, standard error says so.
+pub fn deliver(bytes: &[u8], failure: &[u8]) {
+    let done = io::write_all(STDOUT_FILENO, bytes);
+    if !done {
+        tell(failure);
+    }
+}
+
+// Bytes as they are, on standard error.
+pub fn tell(bytes: &[u8]) {
+    io::write_all(STDERR_FILENO, bytes);
+}
+
 // A number, in decimal.
 pub fn number(n: usize) {
     io::print_decimal(STDOUT_FILENO, n as u64);
+}
+
+// The same on standard error.
+pub fn tell_number(n: usize) {
+    io::print_decimal(STDERR_FILENO, n as u64);
 }
 
 // A number of a list, with a space before it unless it is the first.
@@ -177,20 +195,28 @@ pub fn read(name: &[u8], area: &mut [u8]) -> usize
     size
 }
 
-// What was read of a file: so many bytes, and whether there are more behind them; or that it cannot be read.
+// What was read of a file: so many bytes, and whether there are more behind them; or that there is no such file, or that it cannot be read.
 pub struct Input {
     pub size: usize,
     pub more: bool,
+    pub missing: bool,
     pub failed: bool,
 }
 
-// Whether a file that was not opened is there all the same, which standard error then says with the reason.
-fn unopened(name: &[u8]) -> bool {
-    if os::errno() == libc::ENOENT {
-        return false;
+// A file that was not opened: there is none, or standard error says why not.
+fn unopened(name: &[u8]) -> Input
+    ensures { λ r. ⌜ r .size ≡ 0 ⌝ }
+{
+    let missing = os::errno() == libc::ENOENT;
+    if !missing {
+        os::fail(name);
     }
-    os::fail(name);
-    true
+    Input {
+        size: 0,
+        more: false,
+        missing,
+        failed: !missing,
+    }
 }
 
 // Whether the file was not read as far as it should be, which standard error then says: by what the read of one byte more answered, and
@@ -206,23 +232,19 @@ fn cut_short(name: &[u8], got: isize, full: bool) -> bool {
     if full {
         return false;
     }
-    io::write_all(STDERR_FILENO, name);
-    io::write_all(STDERR_FILENO, b": not read to its end\n");
+    tell(name);
+    tell(b": not read to its end\n");
     true
 }
 
 // Puts the file's bytes at the start of the area, as many as there is room for, and looks for one more. A missing file is empty; one that
-// cannot be read is named on standard error with the reason.
+// is there and cannot be read is named on standard error with the reason.
 pub fn read_file(name: &[u8], area: &mut [u8]) -> Input
     ensures { λ r. ⌜ Counts (r .size) (now (area .exit)) ⌝ }
 {
     let fd = os::open_read(name);
     if fd < 0 {
-        return Input {
-            size: 0,
-            more: false,
-            failed: unopened(name),
-        };
+        return unopened(name);
     }
     let size = io::read_full(fd, area);
     let mut next = [0u8; 1];
@@ -232,6 +254,7 @@ pub fn read_file(name: &[u8], area: &mut [u8]) -> Input
     Input {
         size,
         more: got > 0,
+        missing: false,
         failed,
     }
 }

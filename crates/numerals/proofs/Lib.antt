@@ -1,0 +1,3 @@
+-- Laws of numerals.
+pub mod Laws
+pub mod Vectors
