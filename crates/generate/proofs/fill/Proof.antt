@@ -19,7 +19,7 @@ bytes seed size = tabulate (λ b. generateByte seed b) 0 size
 
 abbrev Inv-loop : tie.InvT-loop
 Inv-loop seed size result₀ x₀ b₀ result x b =
-    (b ≤ size) × (length result ≡ length result₀) × (x ≡ stepped seed b) × (result ≡ overwritten (take b (bytes seed size)) result₀)
+    (x ≡ stepped seed b) × (b ≤ size) × (length result ≡ length result₀) × (result ≡ overwritten (take b (bytes seed size)) result₀)
 
 abbrev μ-loop : tie.MeasureT-loop
 μ-loop seed size result₀ x₀ b₀ result x b = size - b
@@ -33,16 +33,16 @@ start l = l .before .before
 
 -- there is room for the byte
 room : (c : tie.After-step Inv-loop μ-loop) → suc (turn c .loop .b) ≤ length (turn c .loop .result)
-room c = omega (arith, c .before .loop-test .taken, turn c .loop .inv .1, start (turn c) .pre)
+room c = omega (arith, c .before .loop-test .taken, turn c .loop .inv .2, start (turn c) .pre)
 
 -- the number is that after one step more
 next : (c : tie.After-step Inv-loop μ-loop) → c .step .result ≡ stepped (start (turn c) .args .seed) (suc (turn c .loop .b))
 unfolding stepped
-next c = c .step .ensures ∙ ap step (turn c .loop .inv .2)
+next c = c .step .ensures ∙ ap step (turn c .loop .inv .0)
 
 loop-holds : tie.Need-loop-holds Inv-loop μ-loop
 unfolding stepped
-loop-holds c = (omega arith, refl, refl, sym (overwritten-none _))
+loop-holds c = (refl, omega arith, refl, sym (overwritten-none _))
 
 -- its lowest bit is the byte of this place
 byte : (c : tie.After-step Inv-loop μ-loop) → let s = start (turn c) .args in c .step .result % 2 ≡ getD (bytes (s .seed) (s .size)) (turn c .loop .b) 0
@@ -59,9 +59,9 @@ loop-again c =
     let s = start l .args in
     let inv = l .loop .inv in
     let taken = c .before .loop-test .taken in (
-      omega (arith, taken),
-      rw length-set (inv .1),
       rw (add-one (l .loop .b)) (next c),
+      omega (arith, taken),
+      rw length-set (inv .2),
       row-more (bytes (s .seed) (s .size)) _ _ _ (l .loop .b) _ 0 refl (byte c) (rw length-tabulate taken) (omega (arith, taken, start l .pre)) (inv .3),
     )
 
@@ -69,7 +69,7 @@ returns : tie.Need-returns Inv-loop μ-loop
 returns c =
     let s = start (c .before) .args in
     let inv = c .before .loop .inv in
-    row-all (bytes (s .seed) (s .size)) _ _ (c .before .loop .b) (rw length-tabulate (omega (arith, inv .0, c .loop-test .left))) (inv .3)
+    row-all (bytes (s .seed) (s .size)) _ _ (c .before .loop .b) (rw length-tabulate (omega (arith, inv .1, c .loop-test .left))) (inv .3)
 
 pub fill-spec : {M : Type 1} → statement M
 fill-spec =
@@ -84,5 +84,5 @@ fill-spec =
     (λ c. omega (arith, c .before .loop-test .taken))
     (λ c. omega (arith, c .before .loop-test .taken))
     loop-again
-    (λ c. c .before .loop .inv .1)
+    (λ c. c .before .loop .inv .2)
     returns)
