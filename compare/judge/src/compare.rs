@@ -1,12 +1,15 @@
-//! The two programs beside this grader: random files for the one, random calls for the other, every print to the byte.
+//! The programs beside this grader: random files for the first, random calls for the second, random seeds and lengths
+//! for the third, every print to the byte.
 
 use crate::calls::{Call, Kind};
 use crate::probe::{call_bytes, prints};
 use crate::program::{self, FILES};
 use crate::random::Random;
+use crate::refusals::{read_circuit, read_test};
 use crate::scratch::{Run, Scratch};
+use crate::sequence::{agrees, Sequence};
 use crate::tally::Tally;
-use crate::{random_calls, random_files};
+use crate::{random_calls, random_files, random_sequences};
 use std::{fs, io, path::PathBuf, time::Instant};
 
 /// The longest file that is lent to the program that makes calls.
@@ -18,23 +21,26 @@ const SHOWN: usize = 5;
 struct Comparison {
     grader: PathBuf,
     probe: PathBuf,
+    random: PathBuf,
     scratch: Scratch,
     tally: Tally,
     differences: usize,
 }
 
-/// So many jobs, one in ten damaged, and for one in five of them a call.
-pub fn compare(grader: &str, probe: &str, jobs: usize, seed: u64) -> io::Result<()> {
+/// So many jobs, one in ten damaged, and for one in five of them a call and a sequence.
+pub fn compare(programs: [&str; 3], jobs: usize, seed: u64) -> io::Result<()> {
     let begun = Instant::now();
-    let [grader, probe] = [fs::canonicalize(grader)?, fs::canonicalize(probe)?];
+    let [grader, probe, random] = programs.map(fs::canonicalize);
+    let (grader, probe, random) = (grader?, probe?, random?);
     let (scratch, tally) = (Scratch::new()?, Tally::default());
-    let mut comparison = Comparison { grader, probe, scratch, tally, differences: 0 };
+    let mut comparison = Comparison { grader, probe, random, scratch, tally, differences: 0 };
     let mut seeds = Random(seed);
     for n in 0..jobs {
         let mut random = Random(seeds.next());
         comparison.compare_program(n, &mut random)?;
         if n % 5 == 0 {
             comparison.compare_call(n, &mut random)?;
+            comparison.compare_sequence(n, &mut random)?;
         }
     }
     comparison.tally.print();
@@ -82,21 +88,51 @@ impl Comparison {
         self.hold(&format!("call {n}, {:?}", call.kind), &prints(told), run)
     }
 
+    /// A run that writes a sequence; each that it should write is a test of its circuit by rows 7 and 8.
+    fn compare_sequence(&mut self, n: usize, random: &mut Random) -> io::Result<()> {
+        let sequence = random_sequences::sequence(random);
+        self.scratch.put(FILES[0], Some(&sequence.circuit))?;
+        let call = sequence.call();
+        let answer = call.answer();
+        self.tally.count_sequence(&answer);
+        let Sequence { circuit, seed, units } = &sequence;
+        let run = self.scratch.run(&self.random, &[seed, units])?;
+        if !agrees(&answer, &run) {
+            let name = format!("sequence {n}, random {seed} {units}, expected {}", answer.words());
+            let bytes = &answer.result[..answer.done.unwrap_or(0)];
+            if self.differ(&name, bytes, &run)? {
+                show_sequence(bytes, &run);
+            }
+            return Ok(());
+        }
+        if answer.done.is_ok() {
+            let read = read_circuit(circuit).and_then(|circuit| read_test(&circuit, &run.print));
+            assert_eq!(read, Ok(call.units), "rows 7 and 8 refuse a sequence");
+        }
+        Ok(())
+    }
+
     /// Compares a program's print with those it may make.
     fn hold(&mut self, name: &str, expected: &[String], run: Run) -> io::Result<()> {
         if run.succeeded && expected.iter().any(|print| print.as_bytes() == run.print) {
             return Ok(());
         }
+        let stated = expected[expected.len() - 1].as_str();
+        if self.differ(name, stated.as_bytes(), &run)? {
+            show_difference(stated, &String::from_utf8_lossy(&run.print));
+        }
+        Ok(())
+    }
+
+    /// Counts a difference; whether it is one of the first, which are shown and of which the files are kept.
+    fn differ(&mut self, name: &str, expected: &[u8], run: &Run) -> io::Result<bool> {
         self.differences += 1;
         if self.differences > SHOWN {
-            return Ok(());
+            return Ok(false);
         }
-        let stated = expected[expected.len() - 1].as_str();
-        let directory = self.scratch.keep(&[("expected", stated.as_bytes()), ("printed", &run.print)])?;
-        let printed = String::from_utf8_lossy(&run.print);
+        let directory = self.scratch.keep(&[("expected", expected), ("printed", &run.print)])?;
         println!("{name}: exit code 0 {}, files, expected and printed in {}", run.succeeded, directory.display());
-        show_difference(stated, &printed);
-        Ok(())
+        Ok(true)
     }
 }
 
@@ -138,4 +174,11 @@ fn show_difference(expected: &str, printed: &str) {
             (wanted, found) => return println!("line {line}: expected {wanted:?}, printed {found:?}"),
         }
     }
+}
+
+/// Both lengths, the first byte that differs, and what was written to standard error.
+fn show_sequence(expected: &[u8], run: &Run) {
+    let first = expected.iter().zip(&run.print).position(|(wanted, found)| wanted != found);
+    println!("{} bytes expected, {} printed, the first that differs {first:?}", expected.len(), run.print.len());
+    println!("standard error: {:?}", String::from_utf8_lossy(&run.errors));
 }

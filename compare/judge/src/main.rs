@@ -10,6 +10,8 @@ mod circuit;
 mod compare;
 mod counter;
 mod damage;
+mod generate;
+mod generate_vectors;
 mod grade;
 mod group;
 mod hidden;
@@ -29,11 +31,13 @@ mod program;
 mod random;
 mod random_calls;
 mod random_files;
+mod random_sequences;
 mod refusals;
 mod s27;
 mod samples;
 mod scratch;
 mod search;
+mod sequence;
 mod simulate;
 mod simulation;
 mod specimens;
@@ -47,9 +51,10 @@ use choose::choose;
 use program::FILES;
 use std::{env, fs, io, path::Path, process::ExitCode};
 
-const USAGE: &str = "usage: judge specimens | vectors DIR | call-vectors DIR | grade DIR K | choose DIR K \
-    | bench-jobs DIR | sample-jobs DIR | compare-programs GRADER PROBE JOBS SEED | measure-programs GRADER \
-    | play-grader | play-probe; with the library also measure | measure-choose | growth";
+const USAGE: &str = "usage: judge specimens | vectors DIR | call-vectors DIR | generate-vectors DIR | grade DIR K \
+    | choose DIR K | bench-jobs DIR | sample-jobs DIR | compare-programs GRADER PROBE RANDOM JOBS SEED \
+    | measure-programs GRADER | play-grader | play-probe | play-random SEED UNITS; \
+    with the library also measure | measure-choose | growth";
 
 fn main() -> ExitCode {
     let arguments: Vec<String> = env::args().skip(1).collect();
@@ -58,6 +63,7 @@ fn main() -> ExitCode {
         ["specimens"] => check_specimens(),
         ["vectors", directory] => vectors::write(Path::new(directory)),
         ["call-vectors", directory] => call_vectors::write(Path::new(directory)),
+        ["generate-vectors", directory] => generate_vectors::write(Path::new(directory)),
         ["sample-jobs", directory] => samples::write(Path::new(directory)),
         ["bench-jobs", directory] => bench::write(Path::new(directory)),
         #[cfg(feature = "library")]
@@ -66,10 +72,13 @@ fn main() -> ExitCode {
         ["measure-choose"] => measure_choose::measure(),
         #[cfg(feature = "library")]
         ["growth"] => measure::growth(),
-        ["compare-programs", grader, probe, jobs, seed] => compare_programs(grader, probe, jobs, seed),
+        ["compare-programs", grader, probe, random, jobs, seed] => {
+            compare_programs([grader, probe, random], jobs, seed)
+        }
         ["measure-programs", grader] => turns::measure(grader),
         ["play-grader"] => play::grader(),
         ["play-probe"] => play::probe(),
+        ["play-random", seed, units] => play::random(seed, units),
         ["grade", directory, k] => grade_files(Path::new(directory), k),
         ["choose", directory, k] => choose_files(Path::new(directory), k),
         _ => Err(io::Error::other(USAGE)),
@@ -97,9 +106,9 @@ fn check_specimens() -> io::Result<()> {
     Err(io::Error::other("some verdicts differ"))
 }
 
-fn compare_programs(grader: &str, probe: &str, jobs: &str, seed: &str) -> io::Result<()> {
+fn compare_programs(programs: [&str; 3], jobs: &str, seed: &str) -> io::Result<()> {
     let [jobs, seed] = [jobs, seed].map(|number| number.parse::<u64>().map_err(io::Error::other));
-    compare::compare(grader, probe, jobs? as usize, seed?)
+    compare::compare(programs, jobs? as usize, seed?)
 }
 
 /// The job in a directory; a missing file is empty.

@@ -61,6 +61,11 @@ pub fn faults_with_verdict(job: &LentJob, verdicts: &[u16]) -> Vec<Place> {
     faults.zip(records).filter(|(_, record)| verdicts.contains(&record[0])).map(|(fault, _)| fault).collect()
 }
 
+/// A circuit alone.
+pub fn circuit(random: &mut Random) -> Vec<u8> {
+    circuit_and_test(random).circuit
+}
+
 /// A circuit and a test, of a size that is seldom large.
 fn circuit_and_test(random: &mut Random) -> LentJob {
     match random.below(1000) {

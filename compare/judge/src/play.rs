@@ -3,6 +3,7 @@
 use crate::bytes::LentJob;
 use crate::probe::{prints, read_call};
 use crate::program::{self, FILES};
+use crate::sequence::Sequence;
 use std::fs;
 use std::io::{self, Write};
 
@@ -20,4 +21,14 @@ pub fn probe() -> io::Result<()> {
     let job = LentJob { circuit, test, faults, plan, ..LentJob::default() };
     let call = read_call(&file("call.dat"), job, file("verdicts.dat"));
     io::stdout().write_all(prints(call.as_ref())[0].as_bytes())
+}
+
+/// The error that a refused call ends with is written to standard error.
+pub fn random(seed: &str, units: &str) -> io::Result<()> {
+    let [seed, units] = [seed, units].map(str::to_string);
+    let answer = Sequence { circuit: file(FILES[0]), seed, units }.call().answer();
+    match answer.done {
+        Ok(length) => io::stdout().write_all(&answer.result[..length]),
+        Err(_) => Err(io::Error::other(format!("random: {}: the judge refuses it", answer.words()))),
+    }
 }

@@ -154,7 +154,7 @@ fn pin_lines(record: &[u8]) -> [u16; 4] {
 }
 
 /// Rows 7 and 8; the number of time units.
-fn read_test(circuit: &Circuit, test: &[u8]) -> Result<usize, Refusal> {
+pub fn read_test(circuit: &Circuit, test: &[u8]) -> Result<usize, Refusal> {
     let inputs = circuit.inputs.len();
     let time_units = test.len() / inputs;
     if test.is_empty() || !test.len().is_multiple_of(inputs) || time_units > 1024 {

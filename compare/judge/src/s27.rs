@@ -28,9 +28,13 @@ const PLANS: [&[(usize, usize)]; 4] = [
     &[(0, 3), (1, 1), (2, 2), (0, 1), (5, 0), (8, 2), (0, 0), (10, 1), (12, 2)],
 ];
 
+pub fn circuit() -> Vec<u8> {
+    circuit_bytes(CIRCUIT)
+}
+
 /// Every test with every plan at k = 6, the empty plan and one more at k = 3, and one at k = 2.
 pub fn jobs() -> Vec<LentJob> {
-    let circuit = circuit_bytes(CIRCUIT);
+    let circuit = circuit();
     let faults = fault_bytes(&every_fault(&circuit));
     let mut jobs = Vec::new();
     for test in [FIRST, INSERTED, SECOND] {
@@ -44,4 +48,12 @@ pub fn jobs() -> Vec<LentJob> {
 
 fn bits(test: &str) -> Vec<u8> {
     test.bytes().filter(u8::is_ascii_digit).map(|digit| digit - b'0').collect()
+}
+
+#[cfg(test)]
+mod tests {
+    #[test]
+    fn the_circuit_is_that_of_the_sample() {
+        assert_eq!(super::circuit(), include_bytes!("../../../samples/s27/circuit.dat"));
+    }
 }

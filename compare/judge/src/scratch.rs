@@ -4,10 +4,11 @@ use std::collections::HashMap;
 use std::process::{self, Command, Stdio};
 use std::{env, fs, io, path::Path, path::PathBuf};
 
-/// A program's print and whether it ended with exit code 0.
+/// What a program wrote to standard output and to standard error, and whether it ended with exit code 0.
 #[derive(PartialEq)]
 pub struct Run {
     pub print: Vec<u8>,
+    pub errors: Vec<u8>,
     pub succeeded: bool,
 }
 
@@ -52,7 +53,7 @@ impl Scratch {
 
     pub fn run(&self, program: &Path, arguments: &[&str]) -> io::Result<Run> {
         let output = Command::new(program).args(arguments).current_dir(self.job()).stdin(Stdio::null()).output()?;
-        Ok(Run { print: output.stdout, succeeded: output.status.code() == Some(0) })
+        Ok(Run { print: output.stdout, errors: output.stderr, succeeded: output.status.code() == Some(0) })
     }
 
     /// Keeps the files in a directory of their own, with further ones beside them.

@@ -1,6 +1,6 @@
-//! What a comparison has met: verdicts, refusals, and how the pairs of Choose came about.
+//! What a comparison has met: verdicts, refusals, how the pairs of Choose came about, and the runs of `random`.
 
-use crate::calls::{Call, Kind};
+use crate::calls::{Answer, Call, Kind};
 use crate::choose::decided;
 
 #[derive(Default)]
@@ -21,6 +21,9 @@ pub struct Tally {
     pairs: [usize; 3],
     /// Pairs that each place in the rank decides.
     decided: [usize; 6],
+    /// Runs of `random` that wrote a test, then refusals by number.
+    sequences: usize,
+    sequence_refusals: [usize; 18],
 }
 
 impl Tally {
@@ -69,6 +72,14 @@ impl Tally {
         }
     }
 
+    /// A run of `random`.
+    pub fn count_sequence(&mut self, answer: &Answer) {
+        match answer.done {
+            Ok(_) => self.sequences += 1,
+            Err((number, _)) => self.sequence_refusals[number as usize] += 1,
+        }
+    }
+
     pub fn print(&self) {
         println!(
             "{} jobs, {} damaged, {} too long, {} accepted without a fault",
@@ -84,5 +95,16 @@ impl Tally {
         println!("bad calls: {}", self.bad_calls);
         println!("Choose wrote no pair, fewer than k, k: {:?}", self.pairs);
         println!("pairs decided by Nout, Nsv, smaller size, larger size, u, i: {:?}", self.decided);
+        self.print_sequences();
+    }
+
+    fn print_sequences(&self) {
+        let refusals = &self.sequence_refusals[1..];
+        let refused: usize = refusals.iter().sum();
+        let numbers = refusals.iter().filter(|&&count| count > 0).count();
+        println!(
+            "random: {} runs, {refused} refused by {numbers} different numbers, refusals 1 to 17 {refusals:?}",
+            self.sequences + refused
+        );
     }
 }
