@@ -11,9 +11,12 @@ PROGRAM = os.path.abspath('target/bin/random')
 S27 = open('samples/s27/circuit.dat', 'rb').read()
 WIDE = bytes(12 * 255) + bytes([0, 0, 1]) + bytes(9)  # 256 inputs, the last of them an output
 
-USAGE = 'usage: random SEED UNITS\nwrites a test of UNITS time units for the circuit in circuit.dat to standard output\n'
+USAGE = '''usage: random SEED UNITS
+writes a test of UNITS time units, 1 to 1024, for the circuit in circuit.dat to standard output
+SEED is 1 to 65535; each is in decimal or 0x and hexadecimal digits
+'''
 BAD_SEED = 'random: the seed is not a number from 1 to 65535, in decimal or as 0x and hexadecimal digits\n'
-BAD_UNITS = 'random: the time units are not a number from 1 to 1024\n'
+BAD_UNITS = 'random: the time units are not a number from 1 to 1024, in decimal or as 0x and hexadecimal digits\n'
 NO_FILE = 'random: there is no file circuit.dat in this folder\n'
 
 
@@ -63,7 +66,7 @@ runs = [
     (S27[:-1], ['1', '1'], b'', refused(1)),
     (bytes(49164), ['1', '1'], b'', refused(1)),
     (bytes(70000), ['1', '1'], b'', refused(1)),
-    (S27 + bytes([10]) + bytes(11), ['1', '1'], b'', refused(2, 17)),
+    (S27 + bytes([10]) + bytes(11), ['1', '1'], b'', refused(2, 17) + 'record 17 of circuit.dat, counted from 0, has a kind above 9\n'),
     (S27 + bytes([4, 1]) + bytes(10), ['1', '1'], b'', refused(3, 17)),
     (S27 + bytes([0, 0, 2]) + bytes(9), ['1', '1'], b'', refused(4, 17)),
     (S27 + bytes([2, 1, 0, 0, 17]) + bytes(7), ['1', '1'], b'', refused(5, 17)),

@@ -1,4 +1,4 @@
-//! The four calls on lent bytes, as a program meets them: what is lent, what comes back, and the result area after.
+//! The four calls of document 01 on lent bytes, as a program meets them: what is lent, what comes back, and the result area after.
 
 use crate::bytes::LentJob;
 use crate::choose::choose;

@@ -1,4 +1,4 @@
-// The four calls by number, for programs that are told which to make.
+// The four calls of document 01 by number, for programs that are told which to make.
 use job::Outcome;
 
 // Call 1 is Simulate, 2 Grade, 3 Choose and any other Group; each takes what it takes of what is lent.

@@ -14,7 +14,6 @@ use borrow.Author.Tests.{eqb-true, leb-true, leb-false, ltb-true, ltb-false, not
 use Rattle.lists.specs.Scan.{firstAnswer}
 use Rattle.model.specs.Inputs.{N, kind, pinCount, pinLine, isFlipFlop, isGate, I, F, O, L, Fault, faultCount, faultAt, planCount}
 use Rattle.model.specs.Refusals.{Refusal, Answer, done, refused, answer, unlessRefused, refuse, row1, pinsFit, strayBytes, misnamed, misnames, rows2to5, row6, circuitRows, row7, row8, row9, faultFits, row10, row11, row12, row15, workBytes, row13, row14, row16, row17, inputRows, simulateRefusal, gradeRefusal, chooseRefusal, groupRefusal, generateRefusal}
-use Rattle.model.specs.Generate.{generateAnswer}
 use Rattle.model.specs.Accepted.{ValidCircuit, ValidTest, ValidFault, ValidInputs, SimulateReady, GradeReady, ChooseReady, GroupReady, GenerateReady}
 use Rattle.lists.proofs.Tests.{and-left, and-right, or-left-false, or-right-false}
 use Rattle.lists.proofs.Scan.{firstAnswer-none, anyBelow-false}
@@ -348,10 +347,3 @@ module _ (r : Refusal) where
   pub area-refused : (new old : List ℕ) (q : ℕ × ℕ) → r ≡ some q → unlessRefused r new old ≡ old
   unfolding unlessRefused
   area-refused new old q e = rw e
-
--- what Generate has written lies within its result area
-pub generated-within : (c : List ℕ) (seed units result n : ℕ) → generateAnswer c seed units result ≡ done n → n ≤ result
-unfolding generateAnswer
-generated-within c seed units result n e =
-    let told = answered (generateRefusal c seed units result) (units * I c) n e in
-    omega (arith, generateReady c seed units result (told .0) .resultRoom, told .1)

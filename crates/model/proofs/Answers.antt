@@ -129,8 +129,7 @@ pub generated :
     × (generateAnswer (circuitOf ((0, 1, []) ∷ (0, 0, []) ∷ [])) 1 3 5 ≡ refused 14 0)
     -- 17 refuses 1,024; it returns the time units
     × (generateAnswer (circuitOf ((0, 1, []) ∷ (0, 0, []) ∷ [])) 65535 1024 2048 ≡ done 2048)
-    -- another mask; the seed's own bit first; the bit shifted out; a shift left; a step per record; a byte per line; bytes past the result
-    -- cleared
+    -- another mask; the seed's own bit first; a shift left; a step per record; a byte per line; bytes past the result cleared
     × (generateArea (circuitOf ((0, 1, []) ∷ (1, 0, 0 ∷ []) ∷ (0, 0, []) ∷ [])) 0xace1 5 (replicate 12 170)
     ≡ 0 ∷ 0 ∷ 0 ∷ 0 ∷ 1 ∷ 1 ∷ 1 ∷ 0 ∷ 0 ∷ 1 ∷ 170 ∷ 170 ∷ [])
     -- the mask by a test of the new number's lowest bit

@@ -1,22 +1,20 @@
--- The test that Generate writes is accepted, and its number is never zero.
-use mathlib.Core.Path.{_≡_, sym, ap, _∙_}
+-- The test that Generate writes lies within its area and is accepted, and its number is never zero.
+use mathlib.Core.Path.{_≡_, ap}
 use Prim.Native.Nat.{ℕ, zero, suc, _*_, _/_, _%_, _^_, _≤_, _<_}
-use mathlib.Core.Bool.{Bool, true, false, not, cond}
 use mathlib.Core.List.{List}
 use mathlib.Core.Option.{none}
 use lib.ListN.{getD, length}
-use lib.Dec.{eqb, ltb}
 use lib.Bits.{bitXor, xor-lt, xor-shr}
 use native.Mathlib.Omega.{arith}
 use native.Mathlib.Decide.{decLe}
 use native.Mathlib.Nat.{mul-div-cancel, mul-mod-left, mul-le-mul}
 use borrow.Author.Tests.{eq-eqb, ne-eqb, le-ltb}
-use Rattle.lists.specs.Scan.{tabulate}
 use Rattle.lists.proofs.Scan.{firstAnswer-passed, length-tabulate, getD-tabulate}
 use Rattle.model.specs.Inputs.{I, L}
-use Rattle.model.specs.Refusals.{refuse, row7, row8}
-use Rattle.model.specs.Generate.{step, stepped, generateByte, generateBytes}
+use Rattle.model.specs.Refusals.{refuse, row7, row8, done, generateRefusal}
+use Rattle.model.specs.Generate.{step, stepped, generateByte, generateBytes, generateAnswer}
 use Rattle.model.specs.Promises.{TestOf, NeverZero}
+use Rattle.model.proofs.Accepted.{generateReady, answered}
 
 -- ---- the test
 module _ (c : List ℕ) (seed units : ℕ) where
@@ -32,9 +30,9 @@ module _ (c : List ℕ) (seed units : ℕ) where
   unfolding L
   whole h = rw length-generated (mul-div-cancel units h)
 
-  pub generated : 0 < I c → 0 < units → units ≤ 1024 → TestOf c units (generateBytes c seed units)
+  pub accepted-test : 0 < I c → 0 < units → units ≤ 1024 → TestOf c units (generateBytes c seed units)
   unfolding row7 row8 refuse
-  generated h some most =
+  accepted-test h some most =
       record {
         size = rw (
           length-generated,
@@ -46,6 +44,13 @@ module _ (c : List ℕ) (seed units : ℕ) where
         bytes = firstAnswer-passed _ _ (λ b l. ap (λ broken. refuse broken 8 b) (le-ltb 1 _ (low b (rw length-generated at l))));
         whole = whole h;
       }
+
+-- as many bytes as the answer says lie within the result area
+pub generated-within : (c : List ℕ) (seed units result n : ℕ) → generateAnswer c seed units result ≡ done n → n ≤ result
+unfolding generateAnswer
+generated-within c seed units result n e =
+    let told = answered (generateRefusal c seed units result) (units * I c) n e in
+    omega (arith, generateReady c seed units result (told .0) .resultRoom, told .1)
 
 -- ---- the number
 -- the mask's highest bit is the 16th, and no other number has it after the shift
@@ -63,7 +68,7 @@ step-above x some h = elim (decLe 1 (x % 2)) [
   | no g ↦ rw (ne-eqb (x % 2) 1 (λ e. (let z : ⊥ = omega arith in z))) (omega arith, omega arith)
 ]
 
-pub never-zero : (seed : ℕ) → 0 < seed → seed < 65536 → NeverZero seed
+pub stays-above : (seed : ℕ) → 0 < seed → seed < 65536 → NeverZero seed
 unfolding stepped
-never-zero seed some h zero = (some, h)
-never-zero seed some h (suc n) = let before = never-zero seed some h n in step-above (stepped seed n) (before .0) (before .1)
+stays-above seed some h zero = (some, h)
+stays-above seed some h (suc n) = let before = stays-above seed some h n in step-above (stepped seed n) (before .0) (before .1)

@@ -1,5 +1,5 @@
--- The theorems, for every accepted job. What `reads-back`, `total-printed`, `own-fault`, `fault-free`, `graded-groups` and `step-of-ACE1` say is stated here
--- alone, what the others say in specs/Promises.
+-- The theorems, for every accepted job. What `reads-back`, `total-printed`, `own-fault`, `fault-free`, `graded-groups` and `step-of-ACE1` say
+-- is stated here alone, what the others say in specs/Promises.
 use mathlib.Core.Path.{_≡_, refl, sym, ap, _∙_}
 use Prim.Native.Nat.{ℕ, _+_, _*_, _-_, _/_, _≤_, _<_}
 use mathlib.Core.List.{List, _++_}
@@ -31,7 +31,7 @@ use Rattle.model.proofs.Choose.{length-plan, well-chosen}
 use Rattle.model.proofs.Starts.{every-start}
 use Rattle.model.proofs.Open.{pins-open}
 use Rattle.model.proofs.Apart.{sequence-clear}
-use Rattle.model.proofs.Generate.{length-generated, generated, never-zero}
+use Rattle.model.proofs.Generate.{length-generated, accepted-test, stays-above}
 
 verdict-bounds : (c t fs p : List ℕ) (k work result : ℕ) → gradeRefusal c t fs p k work result ≡ none → (f : Fault) → InBounds k (grade c t f p k)
 verdict-bounds c t fs p k work result e f =
@@ -139,11 +139,11 @@ generates-test c seed units old n e =
     let ready : GenerateReady c seed units (length old) = generateReady c seed units (length old) (done .0) in
     let front : take (units * I c) (generateArea c seed units old) ≡ test =
     ap (take (units * I c)) (area-done _ _ _ (done .0)) ∙ take-at test _ (units * I c) (length-generated c seed units) in
-    rw (← done .1, front) (generated c seed units (ready .circuit .someInput) (ready .some) (ready .most))
+    rw (← done .1, front) (accepted-test c seed units (ready .circuit .someInput) (ready .some) (ready .most))
 
 -- the number that makes an accepted test is never zero
-pub number-above : (c : List ℕ) (seed units result : ℕ) → seed < 65536 → generateRefusal c seed units result ≡ none → NeverZero seed
-number-above c seed units result h e = never-zero seed (generateReady c seed units result e .seeded) h
+pub never-zero : (c : List ℕ) (seed units result : ℕ) → seed < 65536 → generateRefusal c seed units result ≡ none → NeverZero seed
+never-zero c seed units result h e = stays-above seed (generateReady c seed units result e .seeded) h
 
 -- seed hexadecimal ACE1 steps to E270
 pub step-of-ACE1 : step 0xace1 ≡ 0xe270

@@ -13,6 +13,6 @@ pub mod Grade
 pub mod Choose
 pub mod Group
 pub mod Listing
-pub mod Generate
 pub mod Specimens
+pub mod Generate
 pub mod Promises

@@ -121,7 +121,7 @@ abbrev pub ClearLists : List ℕ → List ℕ → Fault → Type 0
 ClearLists c t f =
     stage4 c t f ≡ none → (p : List ℕ) (k b u : ℕ) → u < L c t → hasConflict (sequenceRow c t f (taken c t f p k) b u) ≡ false
 
--- Of a test t of so many time units for circuit c: rows 7 and 8 accept it.
+-- t is a test of circuit c, by rows 7 and 8, and has so many time units
 pub record TestOf (c : List ℕ) (units : ℕ) (t : List ℕ) : Type 0 where
   pub size : row7 c t ≡ none
   pub bytes : row8 t ≡ none
@@ -131,6 +131,6 @@ pub record TestOf (c : List ℕ) (units : ℕ) (t : List ℕ) : Type 0 where
 abbrev pub GeneratesTest : List ℕ → ℕ → Answer → List ℕ → Type 0
 GeneratesTest c units answer new = (n : ℕ) → answer ≡ done n → TestOf c units (take n new)
 
--- No step of a 16-bit seed other than zero makes zero, or a number with more than 16 bits.
+-- After however many steps the number is above zero and has at most 16 bits.
 abbrev pub NeverZero : ℕ → Type 0
 NeverZero seed = (n : ℕ) → (0 < stepped seed n) × (stepped seed n < 65536)

@@ -89,6 +89,14 @@ row12 k = refuse (ltb 12 k) 12 0
 unfoldable pub row15 : List ℕ → Refusal
 row15 vs = refuse (not (eqb (length vs % 16) 0) || ltb 524288 (length vs)) 15 0
 
+-- document 02, of Generate: seed | 16 | zero
+unfoldable pub row16 : ℕ → Refusal
+row16 seed = refuse (eqb seed 0) 16 0
+
+-- document 02, of Generate: time units | 17 | 0 or above 1,024
+unfoldable pub row17 : ℕ → Refusal
+row17 units = refuse (eqb units 0 || ltb 1024 units) 17 0
+
 -- the bytes that number 13 asks for
 unfoldable pub workBytes : List ℕ → List ℕ → ℕ
 workBytes c t = 4 * N c + L c t * (4 * O c + 16 * F c + 8)
@@ -100,16 +108,6 @@ row13 c t work = refuse (ltb work (workBytes c t)) 13 0
 -- result area | 14 | too short for the call's result
 unfoldable pub row14 : ℕ → ℕ → Refusal
 row14 size result = refuse (ltb result size) 14 0
-
--- Document 02 has two rows more, for the call Generate.
-
--- seed | 16 | zero
-unfoldable pub row16 : ℕ → Refusal
-row16 seed = refuse (eqb seed 0) 16 0
-
--- time units | 17 | 0 or above 1,024
-unfoldable pub row17 : ℕ → Refusal
-row17 units = refuse (eqb units 0 || ltb 1024 units) 17 0
 
 -- The first that applies, down the table, is returned; a call skips rows on what it does not take.
 

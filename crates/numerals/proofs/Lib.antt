@@ -1,3 +1,3 @@
--- Laws of numerals.
+-- Laws of numerals, and some numbers.
 pub mod Laws
 pub mod Vectors

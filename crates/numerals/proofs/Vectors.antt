@@ -2,7 +2,7 @@
 use mathlib.Core.Path.{_≡_, refl}
 use mathlib.Core.List.{[], _∷_}
 use mathlib.Core.Option.{none, some}
-use Rattle.numerals.specs.Numeral.{between, digitOf, behindOf, isHex, numeral, capped}
+use Rattle.numerals.specs.Numeral.{between, digitOf, withDigits, isHex, numeral, capped}
 
 pub numbers :
     -- 0xACE1 and 0xace1
@@ -25,5 +25,5 @@ pub numbers :
     -- 65537 and 20 digits are taken as 65,536
     × (capped (numeral (54 ∷ 53 ∷ 53 ∷ 51 ∷ 55 ∷ [])) ≡ some 65536)
     × (capped (numeral (57 ∷ 57 ∷ 57 ∷ 57 ∷ 57 ∷ 57 ∷ 57 ∷ 57 ∷ 57 ∷ 57 ∷ 57 ∷ 57 ∷ 57 ∷ 57 ∷ 57 ∷ 57 ∷ 57 ∷ 57 ∷ 57 ∷ 57 ∷ [])) ≡ some 65536)
-unfolding between digitOf behindOf isHex numeral capped
+unfolding between digitOf withDigits isHex numeral capped
 numbers = (refl, refl, refl, refl, refl, refl, refl, refl, refl, refl, refl, refl, refl, refl, refl, refl, refl, refl, refl, refl)

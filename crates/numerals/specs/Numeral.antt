@@ -16,19 +16,20 @@ between a z b = leb a b && leb b z
 unfoldable pub digitOf : ℕ → ℕ
 digitOf b = cond (between 48 57 b) (b - 48) (cond (between 97 102 b) (b - 87) (cond (between 65 70 b) (b - 55) 16))
 
--- the number that digits make behind those that made v, or none where one of them is no digit of the base
-unfoldable pub behindOf : ℕ → ℕ → List ℕ → Option ℕ
-behindOf base v [] = some v
-behindOf base v (b ∷ bs) = cond (ltb (digitOf b) base) (behindOf base (base * v + digitOf b) bs) none
+-- the number that v becomes with these digits behind its own, or none where one of them is no digit of the base
+unfoldable pub withDigits : ℕ → ℕ → List ℕ → Option ℕ
+withDigits base v [] = some v
+withDigits base v (b ∷ bs) = cond (ltb (digitOf b) base) (withDigits base (base * v + digitOf b) bs) none
 
 -- 0x and something behind it
 unfoldable pub isHex : List ℕ → Bool
 isHex text = ltb 2 (length text) && eqb (getD text 0 0) 48 && eqb (getD text 1 0) 120
 
+-- at least one byte, and all of them digits, or but for 0x
 unfoldable pub numeral : List ℕ → Option ℕ
-numeral text = cond (eqb (length text) 0) none (cond (isHex text) (behindOf 16 0 (drop 2 text)) (behindOf 10 0 text))
+numeral text = cond (eqb (length text) 0) none (cond (isHex text) (withDigits 16 0 (drop 2 text)) (withDigits 10 0 text))
 
--- 65,536 for every number above it, of which there are more than a word can hold
+-- 65,536 for every number above it: a text may tell one that no word holds
 unfoldable pub capped : Option ℕ → Option ℕ
 capped none = none
 capped (some n) = some (min n 65536)

@@ -2,7 +2,7 @@
 ghost use mathlib.Core.Path.{_≡_};
 ghost use Prim.Native.Nat.{_≤_, min};
 ghost use lib.ListN.{length, drop};
-ghost use Rattle.numerals.specs.Numeral.{between, digitOf, behindOf, isHex, numeral, capped, numberOf};
+ghost use Rattle.numerals.specs.Numeral.{between, digitOf, withDigits, isHex, numeral, capped, numberOf};
 
 // A number up to 65,536, which stands for every higher one too; or that the text is none.
 pub enum Numeral {
@@ -34,7 +34,8 @@ fn digit_of(b: u8) -> usize
     16
 }
 
-fn lower(n: usize) -> usize
+// The number, but for high ones.
+fn cap(n: usize) -> usize
     ensures { λ r. ⌜ r ≡ min n 65536 ⌝ }
 {
     if 65536 < n { 65536 } else { n }
@@ -43,7 +44,7 @@ fn lower(n: usize) -> usize
 // The number that the digits from this place on make.
 fn digits(text: &[u8], from: usize, base: usize) -> Numeral
     requires { ⌜ (from ≤ length (now text)) × (1 ≤ base) × (base ≤ 16) ⌝ }
-    ensures { λ r. ⌜ numberOf r ≡ capped (behindOf base 0 (drop from (now (text .entry)))) ⌝ }
+    ensures { λ r. ⌜ numberOf r ≡ capped (withDigits base 0 (drop from (now (text .entry)))) ⌝ }
 {
     let mut v: usize = 0;
     let mut i = from;
@@ -52,7 +53,7 @@ fn digits(text: &[u8], from: usize, base: usize) -> Numeral
         if base <= d {
             return Numeral::Wrong;
         }
-        v = lower(base * v + d);
+        v = cap(base * v + d);
         i += 1;
     }
     Numeral::Number(v)

@@ -1,5 +1,5 @@
 // The program `random`: a pseudo-random test for the circuit in circuit.dat, on standard output, from the seed and the number of time units
-// that its arguments tell. What is wrong is told in a line on standard error, and nothing is then on standard output.
+// that its arguments tell. What is wrong is told on standard error.
 ghost use Prim.Native.Nat.{_≤_};
 use job::Outcome;
 use numerals::Numeral;
@@ -8,15 +8,25 @@ use printing::tell;
 // As long as the longest test.dat that `grader` reads.
 const TEST: usize = 65536;
 
+// What is wrong with a record of the circuit.
+fn tell_record(at: usize, what: &[u8]) {
+    tell(b"record ");
+    printing::tell_number(at);
+    tell(b" of circuit.dat, counted from 0, has ");
+    tell(what);
+}
+
 // What a row of the table of refusals says.
-fn tell_rule(rule: u8) {
+fn tell_rule(rule: u8, at: usize) {
     match rule {
         1 => tell(b"circuit.dat is empty, not whole records of 12 bytes, or above 49152 bytes"),
-        2 => tell(b"that record of circuit.dat has a kind above 9"),
-        3 => tell(b"that record of circuit.dat has a pin count wrong for its kind"),
-        4 => tell(b"that record of circuit.dat has byte 2 above 1, or byte 3 or an unused pin not 0"),
-        5 => tell(b"that record of circuit.dat has a pin that names a line it must not"),
-        6 => tell(b"the circuit has no input or no output, or above 256 inputs, flip-flops or outputs"),
+        2 => tell_record(at, b"a kind above 9"),
+        3 => tell_record(at, b"a pin count wrong for its kind"),
+        4 => tell_record(at, b"byte 2 above 1, or byte 3 or an unused pin not 0"),
+        5 => tell_record(at, b"a pin that names a line it must not"),
+        6 => tell(
+            b"no input or no output, or above 256 inputs, flip-flops or outputs in circuit.dat",
+        ),
         14 => tell(b"the test is longer than the 65536 bytes that grader reads"),
         16 => tell(b"the seed is 0"),
         17 => tell(b"the time units are 0 or above 1024"),
@@ -31,7 +41,7 @@ fn tell_refused(rule: u8, at: usize) {
     tell(b" ");
     printing::tell_number(at);
     tell(b": ");
-    tell_rule(rule);
+    tell_rule(rule, at);
     tell(b"\n");
 }
 
@@ -74,21 +84,36 @@ fn argument(i: usize) -> Numeral {
     numerals::number_in(&text[..size])
 }
 
+// An argument that is no number of its range.
+fn bad(range: &[u8]) {
+    tell(b"random: ");
+    tell(range);
+    tell(b", in decimal or as 0x and hexadecimal digits\n");
+}
+
 fn bad_seed() {
-    tell(b"random: the seed is not a number from 1 to 65535, in decimal or as 0x and hexadecimal digits\n");
+    bad(b"the seed is not a number from 1 to 65535");
 }
 
 // The time units, of a seed that is told.
 fn with_seed(seed: u16) {
     match argument(2) {
-        Numeral::Wrong => tell(b"random: the time units are not a number from 1 to 1024\n"),
+        Numeral::Wrong => bad(b"the time units are not a number from 1 to 1024"),
         Numeral::Number(units) => make_for_file(seed, units),
     }
 }
 
+fn usage() {
+    tell(b"usage: random SEED UNITS\n");
+    tell(
+        b"writes a test of UNITS time units, 1 to 1024, for the circuit in circuit.dat to standard output\n",
+    );
+    tell(b"SEED is 1 to 65535; each is in decimal or 0x and hexadecimal digits\n");
+}
+
 fn main() {
     if os::arg_count() != 3 {
-        tell(b"usage: random SEED UNITS\nwrites a test of UNITS time units for the circuit in circuit.dat to standard output\n");
+        usage();
         return;
     }
     match argument(1) {

@@ -1,4 +1,3 @@
-use mathlib.Core.Path.{refl}
 use borrow.Author.Tests.{eq-eqb, ne-eqb}
 use Rattle.model.specs.Generate.{step}
 use Rattle.generate.proofs.step.Statement.{statement}

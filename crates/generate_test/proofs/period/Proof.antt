@@ -1,5 +1,5 @@
 -- x is the number after n steps, and after fewer it was not back.
-use mathlib.Core.Path.{_≡_, refl, sym, ap, _∙_}
+use mathlib.Core.Path.{_≡_, sym, ap, _∙_}
 use Prim.Native.Nat.{ℕ, suc, _-_, _≤_, _<_}
 use native.Mathlib.Numerals.{add-one}
 use native.Mathlib.Omega.{arith}
@@ -31,7 +31,7 @@ unfolding stepped
 loop-holds c = (omega arith, omega arith, c .step .ensures, λ m low high. absurd (let z : ⊥ = omega arith in z))
 
 returns : tie.Need-returns Inv-loop μ-loop
-returns c = let inv = c .before .before .loop .inv in record { back = λ _. sym (inv .2) ∙ c .if1 .taken; first = inv .3 }
+returns c = let inv = c .before .before .loop .inv in record { some = inv .0; back = λ _. sym (inv .2) ∙ c .if1 .taken; first = inv .3 }
 
 loop-again : tie.Need-loop-again Inv-loop μ-loop
 loop-again c =
@@ -46,7 +46,9 @@ loop-again c =
     )
 
 returns-2 : tie.Need-returns-2 Inv-loop μ-loop
-returns-2 c = let left = c .loop-test .left in record { back = λ h. absurd (let z : ⊥ = omega (arith, left) in z); first = c .before .loop .inv .3 }
+returns-2 c =
+    let inv = c .before .loop .inv in
+    record { some = inv .0; back = λ h. absurd (let z : ⊥ = omega (arith, c .loop-test .left) in z); first = inv .3 }
 
 pub period-spec : {M : Type 1} → statement M
 period-spec =

@@ -5,10 +5,8 @@ use borrow.Author.Needs.{needs}
 use Rattle.grader.proofs.write.Statement.{statement}
 use Rattle.grader.proofs.write.Tie as tie
 
-slice-aggregate-write-all : tie.Need-slice-aggregate-write-all
-slice-aggregate-write-all c = sym (length-take-le _ _ (c .before .before .pre))
+slice-aggregate-deliver : tie.Need-slice-aggregate-deliver
+slice-aggregate-deliver c = sym (length-take-le _ _ (c .before .before .pre))
 
 pub write-spec : {M : Type 1} → statement M
-write-spec =
-    tie.close
-    (tie.spec slice-aggregate-write-all (λ c κs. search needs) (λ c. search needs) (λ c κs. search needs) (λ c. search needs) (λ c. search needs))
+write-spec = tie.close (tie.spec slice-aggregate-deliver (λ c. search needs) (λ c κs. search needs) (λ c. search needs))

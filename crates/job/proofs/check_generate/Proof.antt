@@ -1,4 +1,4 @@
-use mathlib.Core.Path.{_≡_, refl, sym, ap, _∙_}
+use mathlib.Core.Path.{_≡_, sym, ap, _∙_}
 use mathlib.Core.List.{List}
 use mathlib.Core.Option.{none, some, orElse}
 use mathlib.Mathlib.Data.Option.Basic.{orElse-eq-none}
@@ -8,7 +8,7 @@ use native.Mathlib.Omega.{arith}
 use Rattle.lists.specs.Scan.{_else_}
 use Rattle.lists.proofs.Scan.{else-found, else-assoc}
 use Rattle.model.specs.Inputs.{I}
-use Rattle.model.specs.Refusals.{circuitRows, row14, row16, row17, generateRefusal, answer}
+use Rattle.model.specs.Refusals.{circuitRows, row14, row16, row17, generateRefusal}
 use Rattle.model.specs.Generate.{generateAnswer}
 use Rattle.model.proofs.Accepted.{validCircuit, units-fit, answer-refused}
 use Rattle.circuit.specs.Table.{SizesOf}

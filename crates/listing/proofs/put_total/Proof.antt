@@ -21,6 +21,12 @@ start c = c .before .before .before
 abbrev line : tie.After-slice-known3 → tie.After-put-line
 line c = c .before .before
 
+returns : tie.Need-returns
+unfolding totalLine
+returns c =
+    let text = words (line c .before) in
+    put-then (text .put-text .ensures) (put-same (ap numberLine (seven _ _ (counted text .count-verdicts .ensures))) (line c .put-line .ensures))
+
 put-line-requires : tie.Need-put-line-requires
 put-line-requires c κs =
     let text = words c in
@@ -28,12 +34,6 @@ put-line-requires c κs =
     let s = start counts in
     let same = counts .count-verdicts .ensures in
     (omega (arith, seven-long _ _ same), omega (arith, total-fits _ _ same (s .pre .0), s .pre .1, text .put-text .ensures .end))
-
-returns : tie.Need-returns
-unfolding totalLine
-returns c =
-    let text = words (line c .before) in
-    put-then (text .put-text .ensures) (put-same (ap numberLine (seven _ _ (counted text .count-verdicts .ensures))) (line c .put-line .ensures))
 
 pub put-total-spec : {M : Type 1} → statement M
 put-total-spec =

@@ -1,20 +1,19 @@
 -- v, taken as 65,536 where it is higher, is the number that the digits up to place i make: with the digits behind it, it makes what they all
 -- make.
-use mathlib.Core.Path.{_≡_, refl, sym, ap, _∙_}
+use mathlib.Core.Path.{_≡_, refl, sym, _∙_}
 use Prim.Native.Nat.{_+_, _*_, _-_, _≤_}
 use native.Mathlib.Nat.{mul-le-mul, min-le-right}
 use native.Mathlib.Numerals.{add-one}
 use native.Mathlib.Omega.{arith}
 use lib.ListN.{length, drop}
-use borrow.Author.Needs.{needs}
-use Rattle.numerals.specs.Numeral.{behindOf, capped, numberOf}
+use Rattle.numerals.specs.Numeral.{withDigits, capped, numberOf}
 use Rattle.numerals.proofs.Laws.{digit-more, digit-wrong, digits-end}
 use Rattle.numerals.proofs.digits.Statement.{statement}
 use Rattle.numerals.proofs.digits.Tie as tie
 
 abbrev Inv-loop : tie.InvT-loop
 Inv-loop text from base v₀ i₀ v i =
-    (i ≤ length text) × (v ≤ 65536) × (capped (behindOf base v (drop i text)) ≡ capped (behindOf base 0 (drop from text)))
+    (i ≤ length text) × (v ≤ 65536) × (capped (withDigits base v (drop i text)) ≡ capped (withDigits base 0 (drop from text)))
 
 abbrev μ-loop : tie.MeasureT-loop
 μ-loop text from base v₀ i₀ v i = length text - i
@@ -46,8 +45,8 @@ loop-again c =
     let small = min-le-right (s .args .base * l .loop .v + d .digit-of .result) 65536 in
     let more = digit-more (s .args .base) (l .loop .v) (l .loop .i) (s .args .text .now) (s .pre .1) taken (omega (arith, d .digit-of .ensures .0, c .before .if1 .left)) in (
       omega (arith, taken),
-      omega (arith, c .lower .ensures, small),
-      rw (add-one (l .loop .i), c .lower .ensures, d .digit-of .ensures .0) (more ∙ l .loop .inv .2),
+      omega (arith, c .cap .ensures, small),
+      rw (add-one (l .loop .i), c .cap .ensures, d .digit-of .ensures .0) (more ∙ l .loop .inv .2),
     )
 
 returns-2 : tie.Need-returns-2 Inv-loop μ-loop

@@ -1,7 +1,8 @@
 -- The test is within the area; what is not named is found by the search.
 use mathlib.Core.Path.{sym, ap, _∙_}
+use native.Mathlib.Omega.{arith}
 use borrow.Author.Needs.{needs}
-use Rattle.model.proofs.Accepted.{generated-within}
+use Rattle.model.proofs.Generate.{generated-within}
 use Rattle.job.specs.Job.{answerOf}
 use Rattle.random.proofs.make.Statement.{statement}
 use Rattle.random.proofs.make.Tie as tie
@@ -13,7 +14,7 @@ write-requires : tie.Need-write-requires
 unfolding answerOf
 write-requires c κs =
     let size = c .before .before in
-    generated-within _ _ _ _ _ (sym (called size .generate .ensures .0) ∙ ap answerOf (size .size .given .1))
+    omega (arith, generated-within _ _ _ _ _ (sym (called size .generate .ensures .0) ∙ ap answerOf (size .size .given .1)))
 
 pub make-spec : {M : Type 1} → statement M
 make-spec =
