@@ -53,7 +53,7 @@ use std::{env, fs, io, path::Path, process::ExitCode};
 
 const USAGE: &str = "usage: judge specimens | vectors DIR | call-vectors DIR | generate-vectors DIR | grade DIR K \
     | choose DIR K | bench-jobs DIR | sample-jobs DIR | compare-programs GRADER PROBE RANDOM JOBS SEED \
-    | measure-programs GRADER | play-grader | play-probe | play-random SEED UNITS; \
+    | measure-programs GRADER RANDOM | play-grader | play-probe | play-random SEED UNITS; \
     with the library also measure | measure-choose | growth";
 
 fn main() -> ExitCode {
@@ -75,7 +75,7 @@ fn main() -> ExitCode {
         ["compare-programs", grader, probe, random, jobs, seed] => {
             compare_programs([grader, probe, random], jobs, seed)
         }
-        ["measure-programs", grader] => turns::measure(grader),
+        ["measure-programs", grader, random] => turns::measure(grader, random),
         ["play-grader"] => play::grader(),
         ["play-probe"] => play::probe(),
         ["play-random", seed, units] => play::random(seed, units),

@@ -1,8 +1,8 @@
-//! The program and this grader by turns, each as a process on the same files: that both print the same, and the time
+//! The programs and this grader by turns, each as a process on the same files: that both print the same, and the time
 //! that each takes, its start and its reading of files included.
 
 use crate::bench::PROGRAM_JOBS;
-use crate::bytes::LentJob;
+use crate::bytes::{circuit_bytes, LentJob, Line};
 use crate::program::FILES;
 use crate::scratch::{Run, Scratch};
 use std::path::{Path, PathBuf};
@@ -18,10 +18,15 @@ struct Player {
     times: Vec<f64>,
 }
 
+/// The test that fills the area of the program `random`: 256 time units of 256 inputs.
+const INPUTS: [Line; 256] = [(0, 1, &[]); 256];
+const FULL: &[&str] = &["0xACE1", "256"];
+const PLAY_FULL: &[&str] = &["play-random", "0xACE1", "256"];
+
 /// Prints for each job its size, the milliseconds of both programs, least and median, and their ratio.
-pub fn measure(grader: &str) -> io::Result<()> {
+pub fn measure(grader: &str, random: &str) -> io::Result<()> {
     println!("milliseconds, least and median of {TURNS} runs by turns");
-    let (grader, judge) = (fs::canonicalize(grader)?, env::current_exe()?);
+    let (grader, random, judge) = (fs::canonicalize(grader)?, fs::canonicalize(random)?, env::current_exe()?);
     let mut scratch = Scratch::new()?;
     for (name, make) in PROGRAM_JOBS {
         let job = make();
@@ -29,17 +34,21 @@ pub fn measure(grader: &str) -> io::Result<()> {
             scratch.put(file, Some(bytes))?;
         }
         let players = [Player::new(&grader, &[]), Player::new(&judge, &["play-grader"])];
-        let [program, judge] = take_turns(&scratch, job.faults.len() / 4, players)
+        let lines = job.faults.len() / 4 + 1;
+        let ratio = take_turns(&scratch, |print| print.iter().filter(|&&byte| byte == b'\n').count() == lines, players)
             .map_err(|error| io::Error::other(format!("{name}: {error}")))?;
-        println!("{name}: {}: {}", size(&job), ratio(&program, &judge));
+        println!("{name}: {}: {ratio}", size(&job));
     }
+    scratch.put(FILES[0], Some(&circuit_bytes(&INPUTS)))?;
+    let players = [Player::new(&random, FULL), Player::new(&judge, PLAY_FULL)];
+    println!("random: 65536 bytes: {}", take_turns(&scratch, |print| print.len() == 65_536, players)?);
     scratch.clear()
 }
 
-/// Runs both once and then by turns; all runs print the same, a line for each fault and the total.
-fn take_turns(scratch: &Scratch, faults: usize, mut players: [Player; 2]) -> io::Result<[Player; 2]> {
+/// Runs both once and then by turns; all runs print the same, and what an accepted job does. Both times and their ratio.
+fn take_turns(scratch: &Scratch, accepted: impl Fn(&[u8]) -> bool, mut players: [Player; 2]) -> io::Result<String> {
     let expected = players[1].run(scratch)?;
-    if expected.print.iter().filter(|&&byte| byte == b'\n').count() != faults + 1 {
+    if !accepted(&expected.print) {
         return Err(io::Error::other("the job is refused"));
     }
     if players[0].run(scratch)? != expected || !expected.succeeded {
@@ -53,7 +62,7 @@ fn take_turns(scratch: &Scratch, faults: usize, mut players: [Player; 2]) -> io:
             }
         }
     }
-    Ok(players)
+    Ok(ratio(&players[0], &players[1]))
 }
 
 impl Player {
