@@ -3,10 +3,11 @@ use mathlib.Core.Path.{_≡_, refl, sym, ap, _∙_}
 use Prim.Native.Nat.{ℕ, zero, suc, _+_, _*_, _-_, _≤_, _<_}
 use mathlib.Core.Bool.{cond, _&&_}
 use mathlib.Core.List.{List, [], _∷_}
-use lib.ListN.{getD, length, set, take, drop}
-use lib.Seq.{getD-set-same, getD-set-other, take-take}
+use lib.ListN.{getD, length, set, take, drop, length-drop}
+use lib.Seq.{getD-set-same, getD-set-other, take-all, length-take-le}
 use lib.Dec.{eqb}
 use native.Mathlib.Omega.{arith}
+use native.Mathlib.Nat.{mul-suc}
 use Rattle.lists.specs.Field.{rowOf}
 use Rattle.lists.proofs.Tests.{by-eq}
 use Rattle.model.specs.Inputs.{L, Fault}
@@ -33,11 +34,21 @@ open-more (a ∷ free) (b ∷ row) (suc o) places here h k e p =
     open-more free row o _ here (omega arith) (omega arith) e refl in
     rw next (omega (arith, p, tail))
 
+pub open-all : (free row : List ℕ) (o places : ℕ) → length free ≤ o → length row ≤ o → places ≡ countOpen (take o free) (take o row) → places ≡ countOpen free row
+open-all free row o places h k p = rw (take-all o free h, take-all o row k) at p
+
 -- ---- the loop over the units
--- the row of unit u, as it is lent
-row-of : (outputs : ℕ) (table : List ℕ) (u : ℕ) → take outputs (take (outputs * u + outputs - outputs * u) (drop (outputs * u) table)) ≡ rowOf outputs table u
-unfolding rowOf
-row-of outputs table u = take-take outputs (outputs * u + outputs - outputs * u) (drop (outputs * u) table) (omega arith)
+-- the row of unit u, as it is lent: it ends where the next begins
+module _ (outputs u next to : ℕ) (after : next ≡ suc u) (ends : to ≡ outputs * next) where
+  pub row-ends : to ≡ outputs * u + outputs
+  row-ends = ends ∙ rw after (omega (arith, mul-suc outputs u))
+
+  pub row-length : (table : List ℕ) → to ≤ length table → length (take (to - outputs * u) (drop (outputs * u) table)) ≡ outputs
+  row-length table h = rw (length-take-le (to - outputs * u) (drop (outputs * u) table) (rw length-drop (omega arith))) (omega (arith, row-ends))
+
+  pub row-of : (table : List ℕ) → take (to - outputs * u) (drop (outputs * u) table) ≡ rowOf outputs table u
+  unfolding rowOf
+  row-of table = let long : to - outputs * u ≡ outputs = omega (arith, row-ends) in ap (λ size. take size (drop (outputs * u) table)) long
 
 -- Nout of unit u, and in the table that of every unit from u on
 pub record From (units : ℕ) (table : List ℕ) (u later : ℕ) (c t : List ℕ) (f : Fault) : Type 0 where
@@ -50,11 +61,12 @@ module _ {c t : List ℕ} {f : Fault} (units outputs : ℕ) (free faulty : List 
       let none : nout c t f units ≡ 0 = ap (nout c t f) (given .all) ∙ nout-end c t f in
       record { here = sym none; at = λ v p q. let e : v ≡ units = omega arith in rw e (getD-set-same table units 0 0 h ∙ sym none) }
 
-  pub from-more : (table : List ℕ) (u next later added : ℕ) → next ≡ suc u → u < units → u < length table → From units table next later c t f
-      → added ≡ countOpen (take outputs (take (outputs * u + outputs - outputs * u) (drop (outputs * u) free))) (take outputs (take (outputs * u + outputs - outputs * u) (drop (outputs * u) faulty)))
+  pub from-more : (table : List ℕ) (u next to later added : ℕ) → next ≡ suc u → to ≡ outputs * next → u < units → u < length table → From units table next later c t f
+      → added ≡ countOpen (take (to - outputs * u) (drop (outputs * u) free)) (take (to - outputs * u) (drop (outputs * u) faulty))
       → From units (set table u (later + added)) u (later + added) c t f
-  from-more table u next later added n h room done e =
-      let rows : added ≡ countOpen (freeOutputs c t u) (plainOutputs c t f u) = e ∙ rw (row-of outputs free u, row-of outputs faulty u, given .freeRows .at u h, given .faultyRows .at u h) in
+  from-more table u next to later added n ends h room done e =
+      let rows : added ≡ countOpen (freeOutputs c t u) (plainOutputs c t f u) =
+      e ∙ rw (row-of outputs u next to n ends free, row-of outputs u next to n ends faulty, given .freeRows .at u h, given .faultyRows .at u h) in
       let before : later ≡ nout c t f (suc u) = rw (← n) (done .here) in
       let all : later + added ≡ nout c t f u = omega (arith, nout-step c t f u (rw (← (given .all)) h)) in
       record {

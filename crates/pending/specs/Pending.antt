@@ -1,6 +1,6 @@
 -- What is outstanding of a fault at every time unit.
 use mathlib.Core.Path.{_≡_}
-use Prim.Native.Nat.{ℕ, _<_, _≤_}
+use Prim.Native.Nat.{ℕ, _*_, _<_, _≤_}
 use mathlib.Core.List.{List}
 use lib.ListN.{getD}
 use Rattle.lists.specs.Field.{Rows}
@@ -14,8 +14,9 @@ pub record Responses (units outputs : ℕ) (free faulty : List ℕ) (c t : List 
   pub freeRows : Rows outputs units free (freeOutputs c t)
   pub faultyRows : Rows outputs units faulty (plainOutputs c t f)
 
--- a table of Nout(u), for u from 0 to L
-pub record Outstanding (units outputs : ℕ) (free faulty table : List ℕ) : Type 0 where
+-- a table of Nout(u), for u from 0 to L, and that for it L × O places were compared
+pub record Outstanding (units outputs : ℕ) (free faulty table : List ℕ) (compared : ℕ) : Type 0 where
+  pub once : compared ≡ units * outputs
   pub at : (c t : List ℕ) (f : Fault) → Responses units outputs free faulty c t f → (u : ℕ) → u ≤ units → getD table u 0 ≡ nout c t f u
 
 -- Nout is above 0 at the units below `units` and 0 from there on.

@@ -8,37 +8,57 @@ ghost use Rattle.model.specs.Inputs.{L, Fault};
 ghost use Rattle.model.specs.Expansion.{countOpen, nout};
 ghost use Rattle.pending.specs.Pending.{Outstanding, OpenUnits};
 
-// The places, of the first so many, specified in the first row and X in the second.
-pub fn count_open(free: &[u8], row: &[u8], count: usize) -> usize
-    requires { ⌜ (count ≤ length (now free)) × (count ≤ length (now row)) ⌝ }
-    ensures { λ r. ⌜ (r ≡ countOpen (take count (now (free .entry))) (take count (now (row .entry)))) × (r ≤ count) ⌝ }
-{
-    let mut places: usize = 0;
-    let mut o: usize = 0;
-    while o < count {
-        let is_open = basics::both(free[o] <= 1, row[o] == 2);
-        places += basics::one_if(is_open);
-        o += 1;
-    }
-    places
+// How many places of two rows were compared, and how many of them are outstanding: specified in the first and X in the second.
+struct Compared {
+    places: usize,
+    outstanding: usize,
 }
 
-// Nout of every unit, and 0 behind the last, from the outputs without and with the fault, a row a unit.
-pub fn outstanding(units: usize, outputs: usize, free: &[u8], responses: &[u8], table: &mut [usize])
-    requires { ⌜ (units ≤ 1024) × (outputs ≤ 256) × (units * outputs ≤ length (now free)) × (units * outputs ≤ length (now responses)) × (units < length (now table)) ⌝ }
-    ensures { λ _. ⌜ Outstanding units outputs (now (free .entry)) (now (responses .entry)) (now (table .exit)) ⌝ }
+// Two rows of one length, compared place by place.
+fn compare_rows(free: &[u8], row: &[u8]) -> Compared
+    requires { ⌜ (length (now free) ≡ length (now row)) × (length (now free) ≤ 256) ⌝ }
+    ensures { λ r. ⌜ (r .places ≡ length (now (free .entry))) × (r .outstanding ≡ countOpen (now (free .entry)) (now (row .entry))) × (r .outstanding ≤ r .places) ⌝ }
 {
+    let mut places: usize = 0;
+    let mut outstanding: u16 = 0;
+    while places < free.len() {
+        let is_open = basics::both(free[places] <= 1, row[places] == 2);
+        outstanding += basics::one_if(is_open) as u16;
+        places += 1;
+    }
+    Compared {
+        places,
+        outstanding: basics::wide16(outstanding),
+    }
+}
+
+// Nout of every unit, and 0 behind the last, from the outputs without and with the fault, a row a unit. Returns how many places were compared.
+pub fn outstanding(
+    units: usize,
+    outputs: usize,
+    free: &[u8],
+    responses: &[u8],
+    table: &mut [usize],
+) -> usize
+    requires { ⌜ (units ≤ 1024) × (outputs ≤ 256) × (units * outputs ≤ length (now free)) × (units * outputs ≤ length (now responses)) × (units < length (now table)) ⌝ }
+    ensures { λ r. ⌜ Outstanding units outputs (now (free .entry)) (now (responses .entry)) (now (table .exit)) r ⌝ }
+{
+    let mut compared: usize = 0;
     let mut later: usize = 0;
     let mut u = units;
+    let mut to = units * outputs;
     table[units] = 0;
     while u > 0 {
         u -= 1;
         let at = outputs * u;
-        let to = at + outputs;
-        let all = later + count_open(&free[at..to], &responses[at..to], outputs);
+        let here = compare_rows(&free[at..to], &responses[at..to]);
+        compared += here.places;
+        let all = later + here.outstanding;
         table[u] = all;
         later = all;
+        to = at;
     }
+    compared
 }
 
 // How many units there are before the first with Nout 0. Nout never grows from a unit to the next.

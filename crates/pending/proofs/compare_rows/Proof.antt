@@ -1,19 +1,19 @@
--- The places counted are the open ones of the first o.
+-- The first `places` places were compared, and `outstanding` of them are.
 use mathlib.Core.Path.{_≡_, ap, _∙_}
 use mathlib.Core.Bool.{cond}
 use Prim.Native.Nat.{_-_, _≤_}
-use lib.ListN.{take}
+use lib.ListN.{length, take}
 use native.Mathlib.Omega.{arith}
 use Rattle.model.specs.Expansion.{countOpen}
-use Rattle.pending.proofs.Laws.{open-none, open-more}
-use Rattle.pending.proofs.count_open.Statement.{statement}
-use Rattle.pending.proofs.count_open.Tie as tie
+use Rattle.pending.proofs.Laws.{open-none, open-more, open-all}
+use Rattle.pending.proofs.compare_rows.Statement.{statement}
+use Rattle.pending.proofs.compare_rows.Tie as tie
 
 abbrev Inv-loop : tie.InvT-loop
-Inv-loop free row count places₀ o₀ places o = (o ≤ count) × (places ≤ o) × (places ≡ countOpen (take o free) (take o row))
+Inv-loop free row places₀ outstanding₀ places outstanding = (places ≤ length free) × (outstanding ≤ places) × (outstanding ≡ countOpen (take places free) (take places row))
 
 abbrev μ-loop : tie.MeasureT-loop
-μ-loop free row count places₀ o₀ places o = count - o
+μ-loop free row places₀ outstanding₀ places outstanding = length free - places
 
 -- places
 abbrev start : tie.At-loop Inv-loop μ-loop → tie.Start Inv-loop μ-loop
@@ -32,18 +32,19 @@ loop-again c =
     let begin = start (inside .before) in (
       omega arith,
       omega arith,
-      open-more (begin .args .free .now) (begin .args .row .now) (loop .o) (loop .places) _ (omega arith) (omega arith)
+      open-more (begin .args .free .now) (begin .args .row .now) (loop .places) (loop .outstanding) _ (omega arith) (omega arith)
           (c .one-if .ensures .0 ∙ ap (λ b. cond b 1 0) (c .before .both .ensures)) (loop .inv .2),
     )
 
 returns : tie.Need-returns Inv-loop μ-loop
 returns c =
-    let loop = c .before .loop in
-    let end : loop .o ≡ start (c .before) .args .count = omega arith in
-    (rw (← end) (loop .inv .2), omega arith)
+    let loop = c .before .before .loop in
+    let begin = start (c .before .before) in
+    let all : loop .outstanding ≡ countOpen (begin .args .free .now) (begin .args .row .now) = open-all (begin .args .free .now) (begin .args .row .now) (loop .places) (loop .outstanding) (omega arith) (omega arith) (loop .inv .2) in
+    (omega arith, c .wide16 .ensures ∙ all, omega (arith, c .wide16 .ensures))
 
-pub count-open-spec : {M : Type 1} → statement M
-count-open-spec =
+pub compare-rows-spec : {M : Type 1} → statement M
+compare-rows-spec =
     tie.close
     (tie.spec
     Inv-loop
@@ -56,5 +57,7 @@ count-open-spec =
     (λ c. omega arith)
     (λ c. omega arith)
     (λ c. omega arith)
+    (λ c. omega arith)
     loop-again
+    (λ c κs. tt)
     returns)
