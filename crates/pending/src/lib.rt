@@ -3,7 +3,7 @@
 ghost use mathlib.Core.Path.{_≡_};
 ghost use Prim.Native.Nat.{ℕ, _*_, _<_, _≤_};
 ghost use mathlib.Core.List.{List};
-ghost use lib.ListN.{length, take, getD};
+ghost use lib.ListN.{length, getD};
 ghost use Rattle.model.specs.Inputs.{L, Fault};
 ghost use Rattle.model.specs.Expansion.{countOpen, nout};
 ghost use Rattle.pending.specs.Pending.{Outstanding, OpenUnits};
@@ -14,7 +14,8 @@ struct Compared {
     outstanding: usize,
 }
 
-// Two rows of one length, compared place by place.
+// Two rows of one length, compared place by place: each turn of the loop compares one and counts it. A row has few enough places for 16 bits,
+// of which the machine adds more at a time than of longer numbers.
 fn compare_rows(free: &[u8], row: &[u8]) -> Compared
     requires { ⌜ (length (now free) ≡ length (now row)) × (length (now free) ≤ 256) ⌝ }
     ensures { λ r. ⌜ (r .places ≡ length (now (free .entry))) × (r .outstanding ≡ countOpen (now (free .entry)) (now (row .entry))) × (r .outstanding ≤ r .places) ⌝ }
@@ -32,7 +33,8 @@ fn compare_rows(free: &[u8], row: &[u8]) -> Compared
     }
 }
 
-// Nout of every unit, and 0 behind the last, from the outputs without and with the fault, a row a unit. Returns how many places were compared.
+// Nout of every unit, and 0 behind the last, from the outputs without and with the fault, a row a unit. The row of unit u ends where that of the
+// next begins. Returns how many places were compared.
 pub fn outstanding(
     units: usize,
     outputs: usize,
