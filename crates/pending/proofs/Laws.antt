@@ -3,14 +3,15 @@ use mathlib.Core.Path.{_≡_, refl, sym, ap, _∙_}
 use Prim.Native.Nat.{ℕ, zero, suc, _+_, _*_, _-_, _≤_, _<_}
 use mathlib.Core.Bool.{cond, _&&_}
 use mathlib.Core.List.{List, [], _∷_}
-use lib.ListN.{getD, length, set, take, drop, length-drop}
-use lib.Seq.{getD-set-same, getD-set-other, take-all, length-take-le}
+use lib.ListN.{getD, length, set, take, drop}
+use lib.Seq.{getD-set-same, getD-set-other, take-all}
 use lib.Dec.{eqb}
 use native.Mathlib.Omega.{arith}
 use native.Mathlib.Nat.{mul-suc}
 use Rattle.lists.specs.Field.{rowOf}
 use Rattle.lists.proofs.Tests.{by-eq}
-use Rattle.model.specs.Inputs.{L, Fault}
+use Rattle.lists.proofs.Field.{part-row, length-row}
+use Rattle.model.specs.Inputs.{O, L, Fault}
 use Rattle.model.specs.Values.{X, isSpecified}
 use Rattle.model.specs.Simulation.{plainOutputs, freeOutputs}
 use Rattle.model.specs.Expansion.{countOpen, nout}
@@ -18,24 +19,26 @@ use Rattle.model.proofs.Pending.{nout-step, nout-end}
 use Rattle.pending.specs.Pending.{Responses}
 
 -- ---- the loop over the places
-pub open-none : (free row : List ℕ) → 0 ≡ countOpen (take 0 free) (take 0 row)
+pub open-none : (free faulty : List ℕ) → 0 ≡ countOpen (take 0 free) (take 0 faulty)
 unfolding countOpen
-open-none free row = refl
+open-none free faulty = refl
 
-pub open-more : (free row : List ℕ) (o places here : ℕ) → o < length free → o < length row → here ≡ cond (isSpecified (getD free o 0) && eqb (getD row o 0) X) 1 0
-    → places ≡ countOpen (take o free) (take o row) → places + here ≡ countOpen (take (o + 1) free) (take (o + 1) row)
+pub open-more : (free faulty : List ℕ) (places opened here : ℕ) → places < length free → places < length faulty
+    → here ≡ cond (isSpecified (getD free places 0) && eqb (getD faulty places 0) X) 1 0
+    → opened ≡ countOpen (take places free) (take places faulty) → opened + here ≡ countOpen (take (places + 1) free) (take (places + 1) faulty)
 unfolding countOpen
-open-more [] row o places here h k e p = absurd (let z : ⊥ = omega arith in z)
-open-more (a ∷ free) [] o places here h k e p = absurd (let z : ⊥ = omega arith in z)
-open-more (a ∷ free) (b ∷ row) zero places here h k e p = rw (e, p) (omega arith)
-open-more (a ∷ free) (b ∷ row) (suc o) places here h k e p =
-    let next : suc o + 1 ≡ suc (o + 1) = omega arith in
-    let tail : countOpen (take o free) (take o row) + here ≡ countOpen (take (o + 1) free) (take (o + 1) row) =
-    open-more free row o _ here (omega arith) (omega arith) e refl in
+open-more [] faulty places opened here h k e p = absurd (let z : ⊥ = omega arith in z)
+open-more (a ∷ free) [] places opened here h k e p = absurd (let z : ⊥ = omega arith in z)
+open-more (a ∷ free) (b ∷ faulty) zero opened here h k e p = rw (e, p) (omega arith)
+open-more (a ∷ free) (b ∷ faulty) (suc places) opened here h k e p =
+    let next : suc places + 1 ≡ suc (places + 1) = omega arith in
+    let tail : countOpen (take places free) (take places faulty) + here ≡ countOpen (take (places + 1) free) (take (places + 1) faulty) =
+    open-more free faulty places _ here (omega arith) (omega arith) e refl in
     rw next (omega (arith, p, tail))
 
-pub open-all : (free row : List ℕ) (o places : ℕ) → length free ≤ o → length row ≤ o → places ≡ countOpen (take o free) (take o row) → places ≡ countOpen free row
-open-all free row o places h k p = rw (take-all o free h, take-all o row k) at p
+pub open-all : (free faulty : List ℕ) (places opened : ℕ) → length free ≤ places → length faulty ≤ places → opened ≡ countOpen (take places free) (take places faulty)
+    → opened ≡ countOpen free faulty
+open-all free faulty places opened h k p = rw (take-all places free h, take-all places faulty k) at p
 
 -- ---- the loop over the units
 -- the row of unit u, as it is lent: it ends where the next begins
@@ -43,12 +46,11 @@ module _ (outputs u next to : ℕ) (after : next ≡ suc u) (ends : to ≡ outpu
   pub row-ends : to ≡ outputs * u + outputs
   row-ends = ends ∙ rw after (omega (arith, mul-suc outputs u))
 
-  pub row-length : (table : List ℕ) → to ≤ length table → length (take (to - outputs * u) (drop (outputs * u) table)) ≡ outputs
-  row-length table h = rw (length-take-le (to - outputs * u) (drop (outputs * u) table) (rw length-drop (omega arith))) (omega (arith, row-ends))
-
   pub row-of : (table : List ℕ) → take (to - outputs * u) (drop (outputs * u) table) ≡ rowOf outputs table u
-  unfolding rowOf
-  row-of table = let long : to - outputs * u ≡ outputs = omega (arith, row-ends) in ap (λ size. take size (drop (outputs * u) table)) long
+  row-of table = rw row-ends (part-row table outputs outputs u refl)
+
+  pub row-length : (table : List ℕ) → to ≤ length table → length (take (to - outputs * u) (drop (outputs * u) table)) ≡ outputs
+  row-length table h = ap length (row-of table) ∙ length-row outputs u table (omega (arith, row-ends))
 
 -- Nout of unit u, and in the table that of every unit from u on
 pub record From (units : ℕ) (table : List ℕ) (u later : ℕ) (c t : List ℕ) (f : Fault) : Type 0 where
@@ -75,6 +77,9 @@ module _ {c t : List ℕ} {f : Fault} (units outputs : ℕ) (free faulty : List 
             (λ e. rw e (getD-set-same table u (later + added) 0 room ∙ all))
             (λ e. getD-set-other table u v (later + added) 0 e ∙ done .at v (omega arith) q);
       }
+
+  pub all-places : (compared : ℕ) → compared ≡ units * outputs → compared ≡ L c t * O c
+  all-places compared e = e ∙ rw (given .all, given .wide)
 
 -- ---- Nout never grows from a unit to the next
 pub nout-later : (c t : List ℕ) (f : Fault) (u k : ℕ) → u + k < L c t → nout c t f u ≡ 0 → nout c t f (u + k) ≡ 0

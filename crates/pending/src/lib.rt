@@ -6,30 +6,30 @@ ghost use mathlib.Core.List.{List};
 ghost use lib.ListN.{length, getD};
 ghost use Rattle.model.specs.Inputs.{L, Fault};
 ghost use Rattle.model.specs.Expansion.{countOpen, nout};
-ghost use Rattle.pending.specs.Pending.{Outstanding, OpenUnits};
+ghost use Rattle.pending.specs.Pending.{Responses, Outstanding, OpenUnits};
 
-// How many places of two rows were compared, and how many of them are outstanding: specified in the first and X in the second.
-struct Compared {
+// How many places of two rows were compared, and how many of them are open: specified in the first and X in the second.
+struct Comparison {
     places: usize,
-    outstanding: usize,
+    open_places: usize,
 }
 
-// Two rows of one length, compared place by place: each turn of the loop compares one and counts it. A row has few enough places for 16 bits,
-// of which the machine adds more at a time than of longer numbers.
-fn compare_rows(free: &[u8], row: &[u8]) -> Compared
-    requires { ⌜ (length (now free) ≡ length (now row)) × (length (now free) ≤ 256) ⌝ }
-    ensures { λ r. ⌜ (r .places ≡ length (now (free .entry))) × (r .outstanding ≡ countOpen (now (free .entry)) (now (row .entry))) × (r .outstanding ≤ r .places) ⌝ }
+// Two rows of one length, compared place by place: every turn of the loop compares one place and counts it as compared. A row has at most 256
+// places, so 16 bits hold how many are open; the machine adds more such numbers at once than longer ones.
+fn compare_rows(free: &[u8], faulty: &[u8]) -> Comparison
+    requires { ⌜ (length (now free) ≡ length (now faulty)) × (length (now free) ≤ 256) ⌝ }
+    ensures { λ r. ⌜ (r .places ≡ length (now (free .entry))) × (r .open_places ≡ countOpen (now (free .entry)) (now (faulty .entry))) × (r .open_places ≤ r .places) ⌝ }
 {
     let mut places: usize = 0;
-    let mut outstanding: u16 = 0;
+    let mut open_places: u16 = 0;
     while places < free.len() {
-        let is_open = basics::both(free[places] <= 1, row[places] == 2);
-        outstanding += basics::one_if(is_open) as u16;
+        let is_open = basics::both(free[places] <= 1, faulty[places] == 2);
+        open_places += basics::one_if(is_open) as u16;
         places += 1;
     }
-    Compared {
+    Comparison {
         places,
-        outstanding: basics::wide16(outstanding),
+        open_places: basics::wide16(open_places),
     }
 }
 
@@ -39,11 +39,11 @@ pub fn outstanding(
     units: usize,
     outputs: usize,
     free: &[u8],
-    responses: &[u8],
+    faulty: &[u8],
     table: &mut [usize],
 ) -> usize
-    requires { ⌜ (units ≤ 1024) × (outputs ≤ 256) × (units * outputs ≤ length (now free)) × (units * outputs ≤ length (now responses)) × (units < length (now table)) ⌝ }
-    ensures { λ r. ⌜ Outstanding units outputs (now (free .entry)) (now (responses .entry)) (now (table .exit)) r ⌝ }
+    requires { ⌜ (units ≤ 1024) × (outputs ≤ 256) × (units * outputs ≤ length (now free)) × (units * outputs ≤ length (now faulty)) × (units < length (now table)) ⌝ }
+    ensures { λ r. ⌜ ((c t : List ℕ) (f : Fault) → Responses units outputs (now (free .entry)) (now (faulty .entry)) c t f → Outstanding c t f (now (table .exit)) r) ⌝ }
 {
     let mut compared: usize = 0;
     let mut later: usize = 0;
@@ -53,9 +53,9 @@ pub fn outstanding(
     while u > 0 {
         u -= 1;
         let at = outputs * u;
-        let here = compare_rows(&free[at..to], &responses[at..to]);
+        let here = compare_rows(&free[at..to], &faulty[at..to]);
         compared += here.places;
-        let all = later + here.outstanding;
+        let all = later + here.open_places;
         table[u] = all;
         later = all;
         to = at;
@@ -66,7 +66,7 @@ pub fn outstanding(
 // How many units there are before the first with Nout 0. Nout never grows from a unit to the next.
 pub fn open_units(units: usize, table: &[usize]) -> usize
     requires { ⌜ (units ≤ 1024) × (units < length (now table)) ⌝ }
-    ensures { λ r. ⌜ ((c t : List ℕ) (f : Fault) → units ≡ L c t → ((u : ℕ) → u ≤ units → getD (now (table .entry)) u 0 ≡ nout c t f u) → OpenUnits c t f r) ⌝ }
+    ensures { λ r. ⌜ ((c t : List ℕ) (f : Fault) → units ≡ L c t → ((u : ℕ) → u ≤ L c t → getD (now (table .entry)) u 0 ≡ nout c t f u) → OpenUnits c t f r) ⌝ }
 {
     let mut u: usize = 0;
     while u < units {

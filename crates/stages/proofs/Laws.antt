@@ -73,6 +73,7 @@ module _ {c t : List ℕ} {job : Job} {pins flops outs : List ℕ} (g : Tabled c
 pub responses-in : (job : Job) (free faulty c t states : List ℕ) (f : Fault) → JobOf c t job → PlainTables c t free faulty states f → Responses (job .units) (job .outputs) free faulty c t f
 responses-in job free faulty c t states f of tables = record {
   all = of .units;
+  wide = of .outputs;
   freeRows = rw (of .units, of .outputs) (tables .frees);
   faultyRows = rw (of .units, of .outputs) (tables .shown);
 }

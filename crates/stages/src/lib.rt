@@ -47,7 +47,8 @@ pub struct Middle {
     pub pair: usize,
 }
 
-// How many units there are before the first with Nout 0, from the responses without and with the fault.
+// How many units there are before the first with Nout 0, from the responses without and with the fault. How many places were compared for it,
+// L × O, nobody asks here.
 fn open_units(job: Job, free: &[u8], faulty: &[u8], nout: &mut [usize]) -> usize
     requires { ⌜ (job .units ≤ 1024) × (job .outputs ≤ 256) × (job .units * job .outputs ≤ length (now free)) × (job .units * job .outputs ≤ length (now faulty)) × (job .units < length (now nout)) ⌝ }
     ensures { λ r. ⌜ OpenFrom job (now (free .entry)) (now (faulty .entry)) (now (nout .exit)) r ⌝ }

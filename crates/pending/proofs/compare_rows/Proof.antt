@@ -1,4 +1,4 @@
--- The first `places` places were compared, and `outstanding` of them are.
+-- The first `places` places were compared, and `open_places` of them are open.
 use mathlib.Core.Path.{_≡_, ap, _∙_}
 use mathlib.Core.Bool.{cond}
 use Prim.Native.Nat.{_-_, _≤_}
@@ -10,10 +10,10 @@ use Rattle.pending.proofs.compare_rows.Statement.{statement}
 use Rattle.pending.proofs.compare_rows.Tie as tie
 
 abbrev Inv-loop : tie.InvT-loop
-Inv-loop free row places₀ outstanding₀ places outstanding = (places ≤ length free) × (outstanding ≤ places) × (outstanding ≡ countOpen (take places free) (take places row))
+Inv-loop free faulty places₀ open-places₀ places open-places = (places ≤ length free) × (open-places ≤ places) × (open-places ≡ countOpen (take places free) (take places faulty))
 
 abbrev μ-loop : tie.MeasureT-loop
-μ-loop free row places₀ outstanding₀ places outstanding = length free - places
+μ-loop free faulty places₀ open-places₀ places open-places = length free - places
 
 -- places
 abbrev start : tie.At-loop Inv-loop μ-loop → tie.Start Inv-loop μ-loop
@@ -23,7 +23,7 @@ abbrev turn : tie.After-both Inv-loop μ-loop → tie.In-loop Inv-loop μ-loop
 turn c = c .before .before .before
 
 loop-holds : tie.Need-loop-holds Inv-loop μ-loop
-loop-holds c = (omega arith, omega arith, open-none (c .before .before .args .free .now) (c .before .before .args .row .now))
+loop-holds c = (omega arith, omega arith, open-none (c .before .before .args .free .now) (c .before .before .args .faulty .now))
 
 loop-again : tie.Need-loop-again Inv-loop μ-loop
 loop-again c =
@@ -32,7 +32,7 @@ loop-again c =
     let begin = start (inside .before) in (
       omega arith,
       omega arith,
-      open-more (begin .args .free .now) (begin .args .row .now) (loop .places) (loop .outstanding) _ (omega arith) (omega arith)
+      open-more (begin .args .free .now) (begin .args .faulty .now) (loop .places) (loop .open-places) _ (omega arith) (omega arith)
           (c .one-if .ensures .0 ∙ ap (λ b. cond b 1 0) (c .before .both .ensures)) (loop .inv .2),
     )
 
@@ -40,7 +40,7 @@ returns : tie.Need-returns Inv-loop μ-loop
 returns c =
     let loop = c .before .before .loop in
     let begin = start (c .before .before) in
-    let all : loop .outstanding ≡ countOpen (begin .args .free .now) (begin .args .row .now) = open-all (begin .args .free .now) (begin .args .row .now) (loop .places) (loop .outstanding) (omega arith) (omega arith) (loop .inv .2) in
+    let all : loop .open-places ≡ countOpen (begin .args .free .now) (begin .args .faulty .now) = open-all (begin .args .free .now) (begin .args .faulty .now) (loop .places) (loop .open-places) (omega arith) (omega arith) (loop .inv .2) in
     (omega arith, c .wide16 .ensures ∙ all, omega (arith, c .wide16 .ensures))
 
 pub compare-rows-spec : {M : Type 1} → statement M

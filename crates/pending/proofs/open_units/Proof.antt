@@ -23,10 +23,10 @@ returns c = λ cs ts f all at.
     let loop = in-loop .before .loop in
     let below = in-loop .loop-test .taken in record {
       most = omega (arith, below, all);
-      above = λ v h. rw (← at v (omega arith)) (loop .inv .1 v h);
+      above = λ v h. rw (← at v (omega (arith, all))) (loop .inv .1 v h);
       zero = λ v h l.
           let far : loop .u + (v - loop .u) ≡ v = omega arith in
-          rw far at (nout-later cs ts f (loop .u) (v - loop .u) (omega arith) (sym (at (loop .u) (omega (arith, below))) ∙ c .if1 .taken));
+          rw far at (nout-later cs ts f (loop .u) (v - loop .u) (omega arith) (sym (at (loop .u) (omega (arith, below, all))) ∙ c .if1 .taken));
     }
 
 loop-again : tie.Need-loop-again Inv-loop μ-loop
@@ -41,7 +41,7 @@ returns-2 : tie.Need-returns-2 Inv-loop μ-loop
 returns-2 c = λ cs ts f all at.
     let loop = c .before .loop in record {
       most = omega (arith, all);
-      above = λ v h. rw (← at v (omega arith)) (loop .inv .1 v (omega (arith, h, c .loop-test .left)));
+      above = λ v h. rw (← at v (omega (arith, all))) (loop .inv .1 v (omega (arith, h, c .loop-test .left)));
       zero = λ v h l. absurd (let z : ⊥ = omega (arith, all) in z);
     }
 

@@ -9,8 +9,8 @@ counted c = c .before .before .before .before
 
 returns : tie.Need-returns
 returns c = record {
-  nout = λ cs ts states f of tables u h. counted c .outstanding .ensures .at cs ts f (responses-in _ _ _ cs ts states f of tables) u (rw (of .units) h);
-  units = λ cs ts states f of tables. c .open-units .ensures cs ts f (of .units) (counted c .outstanding .ensures .at cs ts f (responses-in _ _ _ cs ts states f of tables));
+  nout = λ cs ts states f of tables. counted c .outstanding .ensures cs ts f (responses-in _ _ _ cs ts states f of tables) .at;
+  units = λ cs ts states f of tables. c .open-units .ensures cs ts f (of .units) (counted c .outstanding .ensures cs ts f (responses-in _ _ _ cs ts states f of tables) .at);
 }
 
 pub open-units-spec : {M : Type 1} → statement M
