@@ -12,7 +12,7 @@ use std::{fs, io, path::Path, time::Instant};
 type Maker = fn() -> LentJob;
 
 /// The jobs, by name.
-pub const JOBS: [(&str, Maker); 8] = [
+pub const JOBS: [(&str, Maker); 9] = [
     ("stage3_small", || many_trials(250, 30, 60, 40, 1)),
     ("stage3_middle", || many_trials(500, 50, 120, 30, 1)),
     ("stage3_large", || many_trials(1000, 80, 200, 20, 2)),
@@ -21,6 +21,7 @@ pub const JOBS: [(&str, Maker); 8] = [
     ("small", || many_trials(40, 4, 6, 10, 1)),
     ("stage5", || many_sequences(24, 12, usize::MAX)),
     ("stage6", || many_starts(12, 500, usize::MAX)),
+    ("outputs", || repeated(many_outputs(3, 100), 10)),
 ];
 
 /// The jobs for the program, by name: k is its own, the work area is no longer than the one it lends, and but for the
@@ -183,6 +184,33 @@ fn many_starts(flip_flops: usize, late: u16, most_tried: usize) -> LentJob {
         let records = found.records().expect("the job is accepted");
         let trying = records.iter().filter(|record| record[0] == 4 || record[7] > late);
         if trying.count() >= 7 && pairs_tried(&found) <= most_tried {
+            return found;
+        }
+    }
+}
+
+/// As many outputs as there may be, over as many time units, and so many faults with something left to show; stage 3
+/// tries no more than so many pairs in all.
+fn many_outputs(faults: usize, most_tried: usize) -> LentJob {
+    let mut random = Random(256);
+    let shape = Shape {
+        inputs: 30,
+        flip_flops: 20,
+        gates: 350,
+        outputs: 256,
+        input_pins: 35,
+        flip_flop_pins: 15,
+        parity_gates: 10,
+        self_feeding: 0,
+        mixed: true,
+        watches: 0,
+    };
+    loop {
+        let found = job(shape, 1024, 1, 6, random.next());
+        let mut reaching = faults_that_reach_stage_3(&some_faults(&found, 400, &mut random));
+        reaching.truncate(faults);
+        let found = with_faults(&found, &reaching);
+        if reaching.len() == faults && pairs_tried(&found) <= most_tried {
             return found;
         }
     }

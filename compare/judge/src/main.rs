@@ -20,6 +20,8 @@ mod jobs;
 mod linked;
 #[cfg(feature = "library")]
 mod measure;
+#[cfg(feature = "earlier")]
+mod measure_beside;
 #[cfg(feature = "library")]
 mod measure_choose;
 mod mixture;
@@ -54,7 +56,7 @@ use std::{env, fs, io, path::Path, process::ExitCode};
 const USAGE: &str = "usage: judge specimens | vectors DIR | call-vectors DIR | generate-vectors DIR | grade DIR K \
     | choose DIR K | bench-jobs DIR | sample-jobs DIR | compare-programs GRADER PROBE RANDOM JOBS SEED \
     | measure-programs GRADER RANDOM | play-grader | play-probe | play-random SEED UNITS; \
-    with the library also measure | measure-choose | growth";
+    with the library also measure | measure-choose | growth, and with an earlier one measure-beside";
 
 fn main() -> ExitCode {
     let arguments: Vec<String> = env::args().skip(1).collect();
@@ -72,6 +74,8 @@ fn main() -> ExitCode {
         ["measure-choose"] => measure_choose::measure(),
         #[cfg(feature = "library")]
         ["growth"] => measure::growth(),
+        #[cfg(feature = "earlier")]
+        ["measure-beside"] => measure_beside::measure(),
         ["compare-programs", grader, probe, random, jobs, seed] => {
             compare_programs([grader, probe, random], jobs, seed)
         }

@@ -25,6 +25,12 @@ impl Answered {
     }
 }
 
+/// Grade as the library exports it.
+#[rustfmt::skip]
+pub type Exported = unsafe extern "C" fn(
+    *const u8, usize, *const u8, usize, *const u8, usize, *const u8, usize, usize, *mut u8, usize, *mut u8, usize,
+) -> Answered;
+
 #[rustfmt::skip]
 extern "C" {
     fn balithoomai_grade(
@@ -45,19 +51,24 @@ impl Areas {
         Areas { work: vec![0; job.work_len], result: vec![0; job.result_len] }
     }
 
-    fn by_library(&mut self, job: &LentJob) -> Result<usize, Refusal> {
+    /// What this Grade answers; the areas hold what it leaves there.
+    pub fn graded(&mut self, job: &LentJob, grade: Exported) -> Result<usize, Refusal> {
         let LentJob { circuit, test, faults, plan, k, .. } = job;
         let Areas { work, result } = self;
         // Each pointer goes with the length of the list it points to, and only the two areas are written.
         #[rustfmt::skip]
         let answered = unsafe {
-            balithoomai_grade(
+            grade(
                 circuit.as_ptr(), circuit.len(), test.as_ptr(), test.len(),
                 faults.as_ptr(), faults.len(), plan.as_ptr(), plan.len(), *k,
                 work.as_mut_ptr(), work.len(), result.as_mut_ptr(), result.len(),
             )
         };
         answered.result()
+    }
+
+    pub fn by_library(&mut self, job: &LentJob) -> Result<usize, Refusal> {
+        self.graded(job, balithoomai_grade)
     }
 
     fn by_judge(&mut self, job: &LentJob) -> Result<usize, Refusal> {
