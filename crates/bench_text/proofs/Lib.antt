@@ -1,0 +1,1 @@
+-- Why the theorems hold.
