@@ -46,7 +46,7 @@ module _ (text : List ℕ) where
 
 -- letters, digits or underscores
 unfoldable pub isNameByte : ℕ → Bool
-isNameByte b = leb 48 b && leb b 57 || leb 65 b && leb b 90 || eqb b 95 || leb 97 b && leb b 122
+isNameByte b = (leb 48 b && leb b 57) || ((leb 65 b && leb b 90) || (eqb b 95 || (leb 97 b && leb b 122)))
 
 -- The tokens of these bytes, the first of which stands at place `at` in the text: each longest run of letters, digits and underscores, and
 -- each other byte that is no space (byte 32). The last `run` bytes before `at` belong to a run that goes on.

@@ -1,0 +1,2 @@
+-- Laws of the tokens that are kept.
+pub mod Laws
