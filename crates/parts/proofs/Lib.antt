@@ -1,0 +1,2 @@
+-- Why the functions do what they say.
+pub mod Laws
