@@ -97,14 +97,19 @@ module _ (text : List ℕ) (ts : List Part) where
   unfoldable pub isLine : Bool
   isLine = isHead && not (anyBelow (λ i. not (isPin i)) pinTokens)
 
+  -- what these tokens say if they are of one of the last two forms
+  unfoldable pub gateSentence : Sentence
+  gateSentence =
+      cond isLine (record { sort = lineKind; name = token 0; pins = tabulate (λ i. token (4 + 2 * i)) 0 pinTokens })
+      (record { sort = MALFORMED; name = noPart; pins = [] })
+
   -- what the text line says
   unfoldable pub sentence : Sentence
   sentence =
       cond (eqb (length ts) 0) (record { sort = NOTHING; name = noPart; pins = [] })
       (cond (isCall inputWord) (record { sort = 0; name = token 2; pins = [] })
       (cond (isCall outputWord) (record { sort = OUTPUT; name = noPart; pins = token 2 ∷ [] })
-      (cond isLine (record { sort = lineKind; name = token 0; pins = tabulate (λ i. token (4 + 2 * i)) 0 pinTokens })
-      (record { sort = MALFORMED; name = noPart; pins = [] }))))
+      gateSentence))
 
 -- what the text line that begins here says
 unfoldable pub sentenceFrom : List ℕ → ℕ → Sentence

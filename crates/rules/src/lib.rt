@@ -57,7 +57,7 @@ fn check_length(c: &[u8]) -> Check
 }
 
 // Row 3.
-fn pins_fit(k: u8, pins: usize) -> bool
+pub fn pins_fit(k: u8, pins: usize) -> bool
     ensures { λ r. ⌜ r ≡ pinsFit k pins ⌝ }
 {
     match k {

@@ -1,0 +1,4 @@
+-- Laws of the forms.
+pub mod Laws
+pub mod Forms
+pub mod Ends

@@ -1,0 +1,44 @@
+use mathlib.Core.Path.{_≡_, refl, sym, ap, _∙_}
+use mathlib.Core.Bool.{true, cond}
+use Prim.Native.Nat.{ℕ}
+use native.Mathlib.Omega.{arith}
+use borrow.Author.Needs.{needs}
+use Rattle.lists.proofs.Tests.{by-test}
+use Rattle.bench_text.specs.Sentence.{lineKind, isLine}
+use Rattle.tokens.specs.Kept.{kept}
+use Rattle.sentences.proofs.Laws.{pins-kept}
+use Rattle.sentences.proofs.Forms.{tells-none, tells-gate, gate-short, gate-none, line-few, gate-some, line-of-kind}
+use Rattle.sentences.proofs.gate_told.Statement.{statement}
+use Rattle.sentences.proofs.gate_told.Tie as tie
+
+abbrev start : tie.After-kind-in → tie.Start
+start c = c .before .before .before .before
+
+returns : tie.Need-returns
+returns c =
+    let s = c .before .before .before .args in
+    (refl, tells-none _ _ _ 12 (gate-short (s .text .now) (s .parts .now) (s .count) (c .if1 .taken)))
+
+returns-2 : tie.Need-returns-2
+returns-2 c =
+    let s = start (c .before) .args in
+    (refl, tells-none _ _ _ 12 (gate-none (s .text .now) (s .parts .now) (s .count) (sym (c .before .kind-in .ensures) ∙ c .if2 .taken)))
+
+returns-3 : tie.Need-returns-3
+returns-3 c =
+    let k = c .before .before .before in
+    let s = start k .args in
+    let found = line-of-kind (s .text .now) (s .parts .now) (s .count) (k .kind-in .result) (k .kind-in .ensures) (c .before .before .if2 .left) in
+    let same = gate-some (s .text .now) (s .parts .now) (s .count) (found .0) in
+    (refl, tells-gate _ _ _ _ _ (line-few (s .text .now) (s .parts .now) (s .count) (found .0)) (rw (← found .1) at same))
+
+pub gate-told-spec : {M : Type 1} → statement M
+gate-told-spec =
+    tie.close
+    (tie.spec
+    returns
+    (λ c κs. (let s = c .before .before .before in (s .pre, omega (arith, c .if1 .left), sym (pins-kept (s .args .text .now) (s .args .parts .now) (s .args .count)))))
+    returns-2
+    (λ c. search needs)
+    (λ c. search needs)
+    returns-3)
