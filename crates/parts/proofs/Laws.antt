@@ -4,7 +4,6 @@ use mathlib.Core.Bool.{true, false, false≢true}
 use mathlib.Core.List.{List, [], _∷_}
 use Prim.Native.Nat.{ℕ, _+_, _*_, _%_, _<_, _≤_}
 use native.Mathlib.Numerals.{add-one}
-use native.Mathlib.Omega.{arith}
 use lib.Dec.{eqb}
 use lib.ListN.{getD, length, drop, drop-of-length-le}
 use lib.Seq.{drop-cons}
@@ -19,11 +18,6 @@ same-equal [] [] e = refl
 same-equal [] (y ∷ b) e = absurd (false≢true e)
 same-equal (x ∷ a) [] e = absurd (false≢true e)
 same-equal (x ∷ a) (y ∷ b) e = rw (eqb-true x y (and-left _ _ e), same-equal a b (and-right (eqb x y) _ e))
-
-pub same-self : (a : List ℕ) → same a a ≡ true
-unfolding same
-same-self [] = refl
-same-self (x ∷ a) = rw (eq-eqb x x refl, same-self a)
 
 -- parts of two sizes
 pub same-sizes : (a b : List ℕ) → (length a ≡ length b → ⊥) → same a b ≡ false

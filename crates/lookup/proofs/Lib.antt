@@ -1,0 +1,4 @@
+-- Why the functions do what they say.
+pub mod Last
+pub mod Laws
+pub mod Chain
