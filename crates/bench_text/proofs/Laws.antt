@@ -1,7 +1,7 @@
 -- Where text lines begin and how many there are, which of them define a line, and which line has a name.
 use mathlib.Core.Path.{_≡_, refl, sym, ap, ap₂}
 use Prim.Native.Nat.{ℕ, zero, suc, _≤_, _<_}
-use mathlib.Core.Bool.{true, false, false≢true}
+use mathlib.Core.Bool.{Bool, true, false, false≢true}
 use mathlib.Core.List.{List, [], _∷_}
 use lib.ListN.{getD, length}
 use lib.Dec.{eqb, ltb}
@@ -41,8 +41,9 @@ module _ (text : List ℕ) where
   pub lines-within : (j : ℕ) → lineStart text j < length text → j < textLines text
   unfolding textLines
   lines-within j h =
-      let above : countBelow (λ i. ltb (lineStart text i) (length text)) j ≡ j = count-all _ j (λ i l. begins i j (omega arith) h) in
-      omega (arith, countBelow-less (λ i. ltb (lineStart text i) (length text)) j (length text) (omega (arith, line-least j)) (begins j j (omega arith) h))
+      let P : ℕ → Bool = λ i. ltb (lineStart text i) (length text) in
+      let above : countBelow P j ≡ j = count-all P j (λ i l. begins i j (omega arith) h) in
+      omega (arith, countBelow-less P j (length text) (omega (arith, line-least j)) (begins j j (omega arith) h))
 
   -- where one begins behind the text, no more than those above it are within
   lines-most : (j : ℕ) → length text ≤ lineStart text j → textLines text ≤ j
@@ -89,7 +90,9 @@ module _ (text : List ℕ) where
   module _ (n : ℕ) (h : n < lineCount text) where
     passes : (getD (definitions text) n 0 < textLines text) × (defines text (getD (definitions text) n 0) ≡ true)
     unfolding definitions lineCount
-    passes = all-at (λ j. (j < textLines text) × (defines text j ≡ true)) (definitions text) n 0 (select-all (λ j. defines text j) (textLines text) (textLines text) (omega arith)) h
+    passes =
+        all-at (λ j. (j < textLines text) × (defines text j ≡ true)) (definitions text) n 0
+        (select-all (λ j. defines text j) (textLines text) (textLines text) (omega arith)) h
 
     pub definition-within : getD (definitions text) n 0 < textLines text
     definition-within = passes .0
@@ -131,5 +134,6 @@ module _ (text name : List ℕ) where
   -- no lower one has it
   pub line-named-lowest : (m : ℕ) → m < lineNamed text name → m < lineCount text → named text name m ≡ false
   unfolding lineNamed
-  line-named-lowest = given-cases (λ r. (m : ℕ) → m < r → m < lineCount text → named text name m ≡ false) (first (λ n. named text name n) (lineCount text)) (lineCount text)
+  line-named-lowest =
+      given-cases (λ r. (m : ℕ) → m < r → m < lineCount text → named text name m ≡ false) (first (λ n. named text name n) (lineCount text)) (lineCount text)
       (λ r e m h _. first-some _ _ r e .fails m h) (λ e m _ l. first-none _ _ m e l)

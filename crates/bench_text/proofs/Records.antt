@@ -1,21 +1,23 @@
 -- The records read back: the fields of line n's 12 bytes.
 use mathlib.Core.Path.{_≡_, refl, ap, _∙_}
 use Prim.Native.Nat.{ℕ, suc, _+_, _*_, _≤_, _<_}
-use mathlib.Core.Bool.{cond}
+use mathlib.Core.Bool.{true, false}
 use mathlib.Core.List.{List, [], _∷_, _++_}
 use lib.ListN.{getD, length, take, drop}
 use lib.Seq.{getD-append-add}
-use lib.Dec.{ltb}
+use borrow.Author.Tests.{lt-ltb, le-ltb}
 use native.Mathlib.Omega.{arith}
-use Rattle.lists.specs.Scan.{gather}
+use Rattle.lists.specs.Scan.{anyBelow, gather}
 use Rattle.lists.specs.Field.{word16, bytes16}
-use Rattle.lists.proofs.Tests.{cond-cases}
+use Rattle.lists.proofs.Tests.{by-test}
 use Rattle.lists.proofs.Scan.{length-gather, gather-part}
 use Rattle.lists.proofs.Field.{word-back, byte-of-part, word-of-part}
 use Rattle.model.specs.Inputs.{N, kind, pinCount, outputMark, spareByte, pinLine}
+use Rattle.bench_text.specs.Text.{textLines}
 use Rattle.bench_text.specs.Sentence.{Sentence}
-use Rattle.bench_text.specs.Bench.{lineCount, definitionOf, pinNames, markOf, pinField, lineRecord, benchRecords}
+use Rattle.bench_text.specs.Bench.{lineCount, definitionOf, pinNames, marks, markOf, pinField, lineRecord, benchRecords}
 use Rattle.bench_text.proofs.Laws.{line-named-most}
+use Rattle.bench_text.proofs.Sentences.{line-pins-few}
 
 -- a field behind other bytes
 word-behind : (front rest : List ℕ) (i : ℕ) → word16 (front ++ rest) (length front + i) ≡ word16 rest i
@@ -42,7 +44,7 @@ module _ (text : List ℕ) where
 
   pub length-record : (n : ℕ) → length (lineRecord text n) ≡ 12
   unfolding lineRecord
-  length-record n = omega (arith, length-gather (λ i. pinField text (definitionOf text n) i) 2 (length-field (definitionOf text n)) 4)
+  length-record n = let s : Sentence = definitionOf text n in omega (arith, length-gather (λ i. pinField text s i) 2 (length-field s) 4)
 
   pub length-records : length (benchRecords text) ≡ 12 * lineCount text
   unfolding benchRecords
@@ -56,6 +58,18 @@ module _ (text : List ℕ) where
   pub pin-most : (s : Sentence) (i : ℕ) → pinNames text s i ≤ lineCount text
   unfolding pinNames
   pin-most s i = line-named-most text _
+
+  -- byte 2 is 1 where a text line marks the line
+  pub mark-true : (n : ℕ) → anyBelow (λ j. marks text n j) (textLines text) ≡ true → markOf text n ≡ 1
+  unfolding markOf
+  mark-true n e = rw e
+
+  pub mark-false : (n : ℕ) → anyBelow (λ j. marks text n j) (textLines text) ≡ false → markOf text n ≡ 0
+  unfolding markOf
+  mark-false n e = rw e
+
+  pub mark-low : (n : ℕ) → markOf text n ≤ 1
+  mark-low n = by-test (anyBelow (λ j. marks text n j) (textLines text)) (λ e. omega (arith, mark-true n e)) (λ e. omega (arith, mark-false n e))
 
 -- ---- line n's fields
 module _ (text : List ℕ) (n : ℕ) (h : n < lineCount text) where
@@ -94,11 +108,14 @@ module _ (text : List ℕ) (n : ℕ) (h : n < lineCount text) where
       ∙ word-behind (s .sort ∷ length (s .pins) ∷ markOf text n ∷ 0 ∷ []) (gather (λ i. pinField text s i) 4) (2 * i)
       ∙ word-of-fields (λ i. pinField text s i) 4 i (length-field text s) l
 
-  -- pin i + 1
-  pub record-pin : (i : ℕ) → i < 4 → lineCount text < 65536
-      → pinLine (benchRecords text) n (suc i) ≡ cond (ltb i (length (definitionOf text n .pins))) (pinNames text (definitionOf text n) i) 0
-  unfolding pinField
-  record-pin i l most =
-      pin-word i l
-      ∙ field-back _ (cond-cases (λ (v : ℕ). v < 65536) (ltb i (length (definitionOf text n .pins))) _ 0
-      (λ _. omega (arith, pin-most text (definitionOf text n) i)) (λ _. omega arith))
+  -- pin i + 1, where it is used and where it is not
+  module _ (few : lineCount text < 65536) where
+    pub used-pin : (i : ℕ) → i < length (definitionOf text n .pins) → pinLine (benchRecords text) n (suc i) ≡ pinNames text (definitionOf text n) i
+    unfolding pinField
+    used-pin i l =
+        pin-word i (omega (arith, line-pins-few text n))
+        ∙ rw (lt-ltb i (length (definitionOf text n .pins)) l) (field-back _ (omega (arith, pin-most text (definitionOf text n) i)))
+
+    pub unused-pin : (i : ℕ) → i < 4 → length (definitionOf text n .pins) ≤ i → pinLine (benchRecords text) n (suc i) ≡ 0
+    unfolding pinField
+    unused-pin i l u = pin-word i l ∙ rw (le-ltb i (length (definitionOf text n .pins)) u) (field-back 0 (omega arith))

@@ -24,7 +24,8 @@ module _ (P : ℕ → Bool) where
   ]
 
   -- what stands last
-  last-here : (xs : List ℕ) (n i : ℕ) (t : Bool) → length xs ≤ i → i < length (xs ++ cond t (n ∷ []) []) → (i ≡ length xs) × (getD (xs ++ cond t (n ∷ []) []) i 0 ≡ n)
+  last-here : (xs : List ℕ) (n i : ℕ) (t : Bool) → length xs ≤ i → i < length (xs ++ cond t (n ∷ []) [])
+      → (i ≡ length xs) × (getD (xs ++ cond t (n ∷ []) []) i 0 ≡ n)
   last-here xs n i true l h =
       let here : length xs ≡ i = omega (arith, length-append xs (n ∷ [])) in
       (omega arith, getD-at xs n [] 0 i here)

@@ -1,11 +1,11 @@
 -- The tokens of a text line lie where its bytes stand, each with a byte at least, and one that begins with a letter, digit or underscore has
 -- no other bytes.
 use mathlib.Core.Path.{_≡_, refl, sym, ap, _∙_}
-use Prim.Native.Nat.{ℕ, zero, suc, _+_, _-_, _≤_, _<_}
+use Prim.Native.Nat.{ℕ, suc, _+_, _-_, _≤_, _<_}
 use mathlib.Core.Bool.{Bool, true, _||_}
 use mathlib.Core.List.{List, [], _∷_, _++_}
-use lib.ListN.{getD, length, drop, length-drop, drop-of-length-le}
-use lib.Seq.{getD-drop}
+use lib.ListN.{getD, length, take, drop, length-take, length-drop, drop-of-length-le}
+use lib.Seq.{getD-take, getD-drop}
 use lib.Dec.{eqb, ltb}
 use borrow.Author.Tests.{eqb-false, lt-ltb, le-ltb}
 use native.Mathlib.Omega.{arith}
@@ -31,15 +31,26 @@ module _ (name : ℕ → Bool) (from end : ℕ) where
   abbrev Tokens : List Part → Type 0
   Tokens ts = Each (Token name from end) ts noPart
 
+  -- the last `run` bytes before `at` are of a name
+  abbrev Run : ℕ → ℕ → Type 0
+  Run at run = (k : ℕ) → at - run ≤ k → k < at → name k ≡ true
+
+  -- these bytes stand at `at`
+  abbrev Stand : ℕ → List ℕ → Type 0
+  Stand at bs = (i : ℕ) → i < length bs → name (at + i) ≡ isNameByte (getD bs i 0)
+
   -- the run that ends before `at`
-  run-token : (at run : ℕ) → run ≤ at → from ≤ at - run → at ≤ end → ((k : ℕ) → at - run ≤ k → k < at → name k ≡ true) → Tokens (runBefore at run)
+  run-token : (at run : ℕ) → run ≤ at → from ≤ at - run → at ≤ end → Run at run → Tokens (runBefore at run)
   unfolding runBefore
   run-token at run l f h before =
       cond-cases Tokens (eqb run 0) [] _ (λ _. each-none (Token name from end) noPart)
       (λ e. each-one (Token name from end) noPart _ record {
-        lies = record { begins = f; some = elim (decLe 1 run) [ yes g ↦ g | no g ↦ absurd (eqb-false run 0 e (omega arith)) ]; ends = omega arith };
+        lies = record { begins = f; some = positive (eqb-false run 0 e); ends = omega arith };
         alike = λ _ k g u. before k g (omega arith);
       })
+    where
+      positive : (run ≡ 0 → ⊥) → 1 ≤ run
+      positive n = elim (decLe 1 run) [ yes g ↦ g | no g ↦ absurd (n (omega arith)) ]
 
   -- a byte by itself
   byte-token : (at b : ℕ) → from ≤ at → at < end → Tokens (byteAt at b)
@@ -51,23 +62,36 @@ module _ (name : ℕ → Bool) (from end : ℕ) where
         alike = λ n k g u. (let here : k ≡ at = omega arith in rw here n);
       })
 
-  tokens-lie : (at run : ℕ) (bs : List ℕ) → run ≤ at → from ≤ at - run → at + length bs ≤ end → ((k : ℕ) → at - run ≤ k → k < at → name k ≡ true)
-      → ((i : ℕ) → i < length bs → name (at + i) ≡ isNameByte (getD bs i 0)) → Tokens (tokens at run bs)
+  -- the first byte is looked at
+  stand-first : (at b : ℕ) (bs : List ℕ) → Stand at (b ∷ bs) → name at ≡ isNameByte b
+  stand-first at b bs here = let place : at + 0 ≡ at = omega arith in rw place at (here 0 (omega arith))
+
+  stand-next : (at b : ℕ) (bs : List ℕ) → Stand at (b ∷ bs) → Stand (suc at) bs
+  stand-next at b bs here i l = let place : at + suc i ≡ suc at + i = omega arith in rw place at (here (suc i) (omega arith))
+
+  run-next : (at run : ℕ) → Run at run → name at ≡ true → Run (suc at) (suc run)
+  run-next at run before e k g u = elim (decLe (suc k) at) [ yes q ↦ before k (omega arith) q | no q ↦ (let last : k ≡ at = omega arith in rw last e) ]
+
+  no-run : (at : ℕ) → Run at 0
+  no-run at k g u = absurd (let z : ⊥ = omega arith in z)
+
+  tokens-lie : (at run : ℕ) (bs : List ℕ) → run ≤ at → from ≤ at - run → at + length bs ≤ end → Run at run → Stand at bs → Tokens (tokens at run bs)
   unfolding tokens
   tokens-lie at run [] l f h before here = run-token at run l f (omega arith) before
   tokens-lie at run (b ∷ bs) l f h before here =
-      let first : name at ≡ isNameByte b = (let z : at + 0 ≡ at = omega arith in rw z at (here 0 (omega arith))) in
-      let next : (i : ℕ) → i < length bs → name (suc at + i) ≡ isNameByte (getD bs i 0) = λ i g. (let z : at + suc i ≡ suc at + i = omega arith in rw z at (here (suc i) (omega arith))) in
       cond-cases Tokens (isNameByte b) _ _
-      (λ e. tokens-lie (suc at) (suc run) bs (omega arith) (omega arith) (omega arith)
-      (λ k g u. elim (decLe (suc k) at) [ yes q ↦ before k (omega arith) q | no q ↦ (let z : k ≡ at = omega arith in rw z (first ∙ e)) ]) next)
+      (λ e.
+      let longer : Run (suc at) (suc run) = run-next at run before (stand-first at b bs here ∙ e) in
+      tokens-lie (suc at) (suc run) bs (omega arith) (omega arith) (omega arith) longer (stand-next at b bs here))
       (λ _.
-      each-append (Token name from end) noPart (runBefore at run ++ byteAt at b) _
-      (each-append (Token name from end) noPart (runBefore at run) _ (run-token at run l f (omega arith) before) (byte-token at b (omega arith) (omega arith)))
-      (tokens-lie (suc at) 0 bs (omega arith) (omega arith) (omega arith) (λ k g u. absurd (let z : ⊥ = omega arith in z)) next))
+      let run-ends : Tokens (runBefore at run) = run-token at run l f (omega arith) before in
+      let byte : Tokens (byteAt at b) = byte-token at b (omega arith) (omega arith) in
+      each-append (Token name from end) noPart (runBefore at run ++ byteAt at b) _ (each-append (Token name from end) noPart (runBefore at run) _ run-ends byte)
+      (tokens-lie (suc at) 0 bs (omega arith) (omega arith) (omega arith) (no-run (suc at)) (stand-next at b bs here)))
 
 -- whatever the text is
-pub tokens-within : (at run : ℕ) (bs : List ℕ) → run ≤ at → (i : ℕ) → i < length (tokens at run bs) → Within (at - run) (at + length bs) (getD (tokens at run bs) i noPart)
+pub tokens-within : (at run : ℕ) (bs : List ℕ) → run ≤ at → (i : ℕ) → i < length (tokens at run bs)
+    → Within (at - run) (at + length bs) (getD (tokens at run bs) i noPart)
 tokens-within at run bs l i h =
     tokens-lie (λ k. ltb k at || isNameByte (getD bs (k - at) 0)) (at - run) (at + length bs) at run bs l (omega arith) (omega arith)
     (λ k _ u. rw (lt-ltb k at u))
@@ -75,18 +99,17 @@ tokens-within at run bs l i h =
     i h .lies
 
 -- ---- the tokens of a text line
-pub upTo-length : (end : ℕ) (bs : List ℕ) → length (upTo end bs) ≤ length bs
+pub upTo-take : (end : ℕ) (bs : List ℕ) → upTo end bs ≡ take (length (upTo end bs)) bs
 unfolding upTo
-upTo-length end [] = omega arith
-upTo-length end (b ∷ bs) = cond-cases (λ (front : List ℕ). length front ≤ suc (length bs)) (eqb b end) [] _ (λ _. omega arith) (λ _. omega (arith, upTo-length end bs))
+upTo-take end [] = refl
+upTo-take end (b ∷ bs) =
+    cond-cases (λ (front : List ℕ). front ≡ take (length front) (b ∷ bs)) (eqb b end) [] _ (λ _. refl) (λ _. ap (_∷_ b) (upTo-take end bs))
+
+pub upTo-length : (end : ℕ) (bs : List ℕ) → length (upTo end bs) ≤ length bs
+upTo-length end bs = omega (arith, ap length (upTo-take end bs), length-take (length (upTo end bs)) bs)
 
 pub upTo-byte : (end : ℕ) (bs : List ℕ) (i : ℕ) → i < length (upTo end bs) → getD (upTo end bs) i 0 ≡ getD bs i 0
-unfolding upTo
-upTo-byte end [] i = λ _. refl
-upTo-byte end (b ∷ bs) zero = cond-cases (λ (front : List ℕ). 0 < length front → getD front 0 0 ≡ b) (eqb b end) [] _ (λ _ h. absurd (let z : ⊥ = omega arith in z)) (λ _ _. refl)
-upTo-byte end (b ∷ bs) (suc i) =
-    cond-cases (λ (front : List ℕ). suc i < length front → getD front (suc i) 0 ≡ getD bs i 0) (eqb b end) [] _
-    (λ _ h. absurd (let z : ⊥ = omega arith in z)) (λ _ h. upTo-byte end bs i (omega arith))
+upTo-byte end bs i h = ap (λ (front : List ℕ). getD front i 0) (upTo-take end bs) ∙ getD-take (length (upTo end bs)) bs i 0 h
 
 -- a letter, digit or underscore stands there
 abbrev pub nameByteAt : List ℕ → ℕ → Bool
@@ -115,7 +138,7 @@ module _ (text : List ℕ) (at : ℕ) where
   line-token = elim (decLe (length text) at) [
     | yes g ↦ rw (no-tokens g) (each-none (Token (nameByteAt text) at (length text)) noPart)
     | no g ↦ tokens-lie (nameByteAt text) at (length text) at 0 (upTo 35 (lineBytes text at)) (omega arith) (omega arith) (content-long (omega arith))
-        (λ k f u. absurd (let z : ⊥ = omega arith in z)) (λ i h. ap isNameByte (content-byte i h))
+        (no-run (nameByteAt text) at (length text) at) (λ i h. ap isNameByte (content-byte i h))
   ]
 
   -- and behind the last of them stands the empty part

@@ -15,7 +15,7 @@ use Rattle.lists.proofs.Scan.{first-lowest, first-fails}
 use Rattle.bench_text.specs.Text.{bytesOf, same}
 use Rattle.bench_text.specs.Bench.{named}
 use Rattle.parts.specs.Hash.{hashOf}
-use Rattle.parts.proofs.Laws.{same-equal}
+use Rattle.bench_text.proofs.Laws.{same-eq}
 use Rattle.lookup.specs.Lookup.{last, rowPart, lineHash, Held}
 use Rattle.lookup.proofs.Last.{last-bound, last-passes, last-skips}
 use Rattle.lookup.proofs.Laws.{held-part}
@@ -31,7 +31,7 @@ pub record Sought (text name : List ℕ) (count at found : ℕ) : Type 0 where
 -- a line that has the name has its hash
 named-hash : (text name : List ℕ) (n : ℕ) → named text name n ≡ true → lineHash text n ≡ hashOf name
 unfolding named lineHash
-named-hash text name n e = ap hashOf (same-equal _ _ e)
+named-hash text name n e = ap hashOf (same-eq _ _ e)
 
 -- `at` tells the highest line below n that has the name's hash
 record Link (text name : List ℕ) (n at : ℕ) : Type 0 where

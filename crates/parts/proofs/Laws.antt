@@ -1,27 +1,20 @@
--- Parts that are the same are equal; sameness and the hash, a byte further.
-use mathlib.Core.Path.{_≡_, refl, ap}
-use mathlib.Core.Bool.{true, false, false≢true}
-use mathlib.Core.List.{List, [], _∷_}
+-- Sameness and the hash, a byte further.
+use mathlib.Core.Path.{_≡_, ap}
+use mathlib.Core.Bool.{true, false}
+use mathlib.Core.List.{List}
 use Prim.Native.Nat.{ℕ, _+_, _*_, _%_, _<_, _≤_}
 use native.Mathlib.Numerals.{add-one}
-use lib.Dec.{eqb}
 use lib.ListN.{getD, length, drop, drop-of-length-le}
 use lib.Seq.{drop-cons}
-use borrow.Author.Tests.{eqb-true, eq-eqb, ne-eqb}
-use Rattle.lists.proofs.Tests.{and-left, and-right, is-false}
+use borrow.Author.Tests.{eq-eqb, ne-eqb}
+use Rattle.lists.proofs.Tests.{is-false}
 use Rattle.bench_text.specs.Text.{same}
+use Rattle.bench_text.proofs.Laws.{same-eq}
 use Rattle.parts.specs.Hash.{hashFrom}
-
-pub same-equal : (a b : List ℕ) → same a b ≡ true → a ≡ b
-unfolding same
-same-equal [] [] e = refl
-same-equal [] (y ∷ b) e = absurd (false≢true e)
-same-equal (x ∷ a) [] e = absurd (false≢true e)
-same-equal (x ∷ a) (y ∷ b) e = rw (eqb-true x y (and-left _ _ e), same-equal a b (and-right (eqb x y) _ e))
 
 -- parts of two sizes
 pub same-sizes : (a b : List ℕ) → (length a ≡ length b → ⊥) → same a b ≡ false
-same-sizes a b h = is-false (same a b) (λ e. h (ap length (same-equal a b e)))
+same-sizes a b h = is-false (same a b) (λ e. h (ap length (same-eq a b e)))
 
 module _ (a b : List ℕ) (i : ℕ) where
   pub same-more : i < length a → i < length b → getD a i 0 ≡ getD b i 0 → same (drop i a) (drop i b) ≡ same (drop (i + 1) a) (drop (i + 1) b)

@@ -11,7 +11,7 @@ use Rattle.bytes.specs.Bytes.{slice, indexAfter, indexOf}
 use Rattle.lists.proofs.Tests.{by-test}
 use Rattle.bench_text.specs.Text.{Part, upTo, lineBytes, nextLine, lineTokens}
 use Rattle.bench_text.specs.Sentence.{noPart}
-use Rattle.bench_text.proofs.Tokens.{upTo-length, line-token}
+use Rattle.bench_text.proofs.Tokens.{upTo-take, upTo-length, line-token}
 use Rattle.tokens.specs.Kept.{partOf, kept}
 use Rattle.tokens.proofs.Laws.{length-kept, getD-kept}
 use Rattle.sentences.specs.Line.{TokensKept}
@@ -21,11 +21,6 @@ index-upTo : (b : ℕ) (xs : List ℕ) → indexOf b xs ≡ length (upTo b xs)
 unfolding indexOf indexAfter upTo
 index-upTo b [] = refl
 index-upTo b (x ∷ xs) = by-test (eqb x b) (λ e. rw e) (λ e. rw e (ap suc (index-upTo b xs)))
-
-take-upTo : (b : ℕ) (xs : List ℕ) → take (length (upTo b xs)) xs ≡ upTo b xs
-unfolding upTo
-take-upTo b [] = refl
-take-upTo b (x ∷ xs) = by-test (eqb x b) (λ e. rw e) (λ e. rw e (ap (λ ys. x ∷ ys) (take-upTo b xs)))
 
 -- the bytes from one place up to another
 slice-part : (text : List ℕ) (at end : ℕ) → at ≤ end → end ≤ length text → slice at end text ≡ take (end - at) (drop at text)
@@ -52,7 +47,7 @@ module _ (text : List ℕ) (at end : ℕ) (h : at ≤ length text) (found : end 
   unfolding lineBytes
   line-part =
       let size : end - at ≡ length (upTo 10 (drop at text)) = omega (arith, long) in
-      ap (λ n. take n (drop at text)) size ∙ take-upTo 10 (drop at text)
+      ap (λ n. take n (drop at text)) size ∙ sym (upTo-take 10 (drop at text))
 
   -- and `to` where its comment begins
   module _ (to : ℕ) (comment : to ≡ at + indexOf 35 (slice at end text)) where
@@ -64,7 +59,7 @@ module _ (text : List ℕ) (at end : ℕ) (h : at ≤ length text) (found : end 
     content-part =
         let size : to - at ≡ length (upTo 35 (lineBytes text at)) = omega (arith, content-long) in
         let less : to - at ≤ end - at = omega (arith, size, long, upTo-length 35 (lineBytes text at)) in
-        sym (take-take (to - at) (end - at) (drop at text) less) ∙ ap (take (to - at)) line-part ∙ ap (λ n. take n (lineBytes text at)) size ∙ take-upTo 35 (lineBytes text at)
+        sym (take-take (to - at) (end - at) (drop at text) less) ∙ ap (take (to - at)) line-part ∙ ap (λ n. take n (lineBytes text at)) size ∙ sym (upTo-take 35 (lineBytes text at))
 
 -- what is kept of a line lies within the text
 pub tokens-kept : (text : List ℕ) (at : ℕ) (parts : List ℕ) (count : ℕ) → length parts ≡ 32 → count ≤ 12 → kept parts count ≡ lineTokens text at → TokensKept text parts count

@@ -13,7 +13,7 @@ use Rattle.lists.proofs.Scan.{length-tabulate, getD-tabulate, tabulate-same}
 use Rattle.model.proofs.Accepted.{few-pins}
 use Rattle.bench_text.specs.Text.{Part}
 use Rattle.bench_text.specs.Sentence.{Sentence, OUTPUT, NOTHING, MALFORMED, noPart, token, is, isName, isCall, pinTokens, lineKind, isHead, isLine, gateSentence, sentence}
-use Rattle.bench_text.proofs.Sentences.{call-name, line-head}
+use Rattle.bench_text.proofs.Sentences.{call-name, line-name, line-pins}
 use Rattle.tokens.specs.Kept.{partOf, kept}
 use Rattle.tokens.proofs.Laws.{length-kept}
 use Rattle.sentences.specs.declared.Line.{Line}
@@ -110,11 +110,10 @@ module _ (text parts : List ℕ) (count : ℕ) where
 
   module _ (e : isLine text (kept parts count) ≡ true) where
     line-length : 4 + 2 * ((count - 4) / 2) ≡ count
-    unfolding isLine
-    line-length = ap (λ n. 4 + 2 * n) (sym (pins-kept text parts count)) ∙ head-length text parts count (and-left _ _ e)
+    line-length = ap (λ n. 4 + 2 * n) (sym (pins-kept text parts count)) ∙ sym (line-name text (kept parts count) e .0) ∙ length-kept parts count
 
     pub line-few : (count - 4) / 2 ≤ 4
-    line-few = rw (pins-kept text parts count) at (few-pins (lineKind text (kept parts count)) _ (line-head text (kept parts count) e .2))
+    line-few = rw (pins-kept text parts count) at (few-pins (lineKind text (kept parts count)) _ (line-pins text (kept parts count) e))
 
     -- a gate or flip-flop
     pub gate-some : gateSentence text (kept parts count)

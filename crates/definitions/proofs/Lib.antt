@@ -1,0 +1,2 @@
+-- Laws of a walk over the text lines.
+pub mod Laws
