@@ -108,6 +108,15 @@ module _ (text : List ℕ) (ts : List Part) where
   pins-few = sentence-cases text ts (λ s. length (s .pins) ≤ 4) (omega arith) (λ _. omega arith) (λ _. omega arith)
       (λ e. rw (length-pinParts text ts) (few-pins (lineKind text ts) (pinTokens text ts) (line-pins text ts e))) (omega arith)
 
+  -- OUTPUT has one
+  pub output-pin : sentence text ts .sort ≡ OUTPUT → length (sentence text ts .pins) ≡ 1
+  output-pin = sentence-cases text ts (λ s. s .sort ≡ OUTPUT → length (s .pins) ≡ 1)
+      (λ h. absurd (let z : ⊥ = omega arith in z))
+      (λ _ h. absurd (let z : ⊥ = omega arith in z))
+      (λ _ _. refl)
+      (λ _ h. absurd (let z : ⊥ = omega (arith, line-kind-low) in z))
+      (λ h. absurd (let z : ⊥ = omega arith in z))
+
   -- more tokens than twelve are of none of the forms
   pub many-malformed : 12 < length ts → sentence text ts ≡ record { sort = MALFORMED; name = noPart; pins = [] }
   unfolding sentence gateSentence

@@ -13,8 +13,8 @@ use Rattle.lists.specs.Scan.{first, countBelow}
 use Rattle.lists.proofs.Scan.{Lowest, first-fails, first-lowest, countBelow-bound}
 use Rattle.bench_text.specs.Text.{nextLine, lineStart, textLines}
 use Rattle.bench_text.specs.Sentence.{Sentence, sentenceFrom, sentenceAt}
-use Rattle.bench_text.specs.Bench.{defines, linesAbove, lineCount, nameAt, named, lineNamed}
-use Rattle.bench_text.proofs.Laws.{line-least, lines-within, lines-end, above-all, above-within, name-here}
+use Rattle.bench_text.specs.Bench.{defines, linesAbove, lineCount, definitionOf, nameAt, named, lineNamed}
+use Rattle.bench_text.proofs.Laws.{line-least, lines-within, lines-end, above-all, above-within, sentence-here, name-here}
 use Rattle.definitions.specs.Reached.{Reached}
 
 pub reached-first : (text : List ℕ) → Reached text 0 0 0
@@ -35,7 +35,10 @@ module _ (text : List ℕ) (j at n : ℕ) (r : Reached text j at n) where
   unfolding sentenceAt
   sentence-reached = ap (sentenceFrom text) (sym (r .begins))
 
-  -- there are no more definitions than bytes
+  -- there are no more text lines, and no more definitions, than bytes
+  pub reached-least : j ≤ at
+  reached-least = omega (arith, r .begins, line-least text j)
+
   pub reached-most : n ≤ at
   unfolding linesAbove
   reached-most = omega (arith, r .above, r .begins, countBelow-bound (λ i. defines text i) j, line-least text j)
@@ -75,6 +78,9 @@ module _ (text : List ℕ) (j at n : ℕ) (r : Reached text j at n) where
 
       pub reached-below : n < lineCount text
       reached-below = rw (r .above) (above-within text j here reached-line)
+
+      pub reached-definition : definitionOf text n ≡ sentenceAt text j
+      reached-definition = ap (definitionOf text) (r .above) ∙ sentence-here text j here reached-line
 
       pub reached-name : nameAt text n ≡ sentenceFrom text at .name
       reached-name = ap (nameAt text) (r .above) ∙ name-here text j here reached-line ∙ ap (λ (s : Sentence). s .name) sentence-reached

@@ -1,0 +1,2 @@
+-- Laws of a text line's check.
+pub mod Laws
