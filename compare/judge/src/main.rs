@@ -2,14 +2,18 @@
 //! and jobs for measuring speed.
 
 mod bench;
+mod bench_programs;
+mod bench_text;
 mod bytes;
 mod call_vectors;
 mod calls;
 mod choose;
 mod circuit;
 mod compare;
+mod compare_bench;
 mod counter;
 mod damage;
+mod damaged_texts;
 mod generate;
 mod generate_vectors;
 mod grade;
@@ -20,6 +24,8 @@ mod jobs;
 mod linked;
 #[cfg(feature = "library")]
 mod measure;
+#[cfg(feature = "library")]
+mod measure_bench;
 #[cfg(feature = "earlier")]
 mod measure_beside;
 #[cfg(feature = "library")]
@@ -33,7 +39,9 @@ mod program;
 mod random;
 mod random_calls;
 mod random_files;
+mod random_names;
 mod random_sequences;
+mod random_texts;
 mod refusals;
 mod s27;
 mod samples;
@@ -45,9 +53,11 @@ mod simulation;
 mod specimens;
 mod stages;
 mod tally;
+mod text_line;
 mod turns;
 mod vectors;
 
+use bench_programs::Program;
 use bytes::{print_record, LentJob};
 use choose::choose;
 use program::FILES;
@@ -55,8 +65,9 @@ use std::{env, fs, io, path::Path, process::ExitCode};
 
 const USAGE: &str = "usage: judge specimens | vectors DIR | call-vectors DIR | generate-vectors DIR | grade DIR K \
     | choose DIR K | bench-jobs DIR | sample-jobs DIR | compare-programs GRADER PROBE RANDOM JOBS SEED \
-    | measure-programs GRADER RANDOM | play-grader | play-probe | play-random SEED UNITS; \
-    with the library also measure | measure-choose | growth, and with an earlier one measure-beside";
+    | compare-bench BENCH NAMES TEXTS SEED | measure-programs GRADER RANDOM | play-grader | play-probe \
+    | play-random SEED UNITS | play-bench [FILE] | play-names [FILE]; \
+    with the library also measure | measure-choose | growth | bench-growth, and with an earlier one measure-beside";
 
 fn main() -> ExitCode {
     let arguments: Vec<String> = env::args().skip(1).collect();
@@ -74,15 +85,20 @@ fn main() -> ExitCode {
         ["measure-choose"] => measure_choose::measure(),
         #[cfg(feature = "library")]
         ["growth"] => measure::growth(),
+        #[cfg(feature = "library")]
+        ["bench-growth"] => measure_bench::growth(),
         #[cfg(feature = "earlier")]
         ["measure-beside"] => measure_beside::measure(),
         ["compare-programs", grader, probe, random, jobs, seed] => {
             compare_programs([grader, probe, random], jobs, seed)
         }
+        ["compare-bench", bench, names, texts, seed] => compare_bench_programs(bench, names, texts, seed),
         ["measure-programs", grader, random] => turns::measure(grader, random),
         ["play-grader"] => play::grader(),
         ["play-probe"] => play::probe(),
         ["play-random", seed, units] => play::random(seed, units),
+        ["play-bench", ref file @ ..] => play::of_text(Program::Bench, file),
+        ["play-names", ref file @ ..] => play::of_text(Program::Names, file),
         ["grade", directory, k] => grade_files(Path::new(directory), k),
         ["choose", directory, k] => choose_files(Path::new(directory), k),
         _ => Err(io::Error::other(USAGE)),
@@ -113,6 +129,11 @@ fn check_specimens() -> io::Result<()> {
 fn compare_programs(programs: [&str; 3], jobs: &str, seed: &str) -> io::Result<()> {
     let [jobs, seed] = [jobs, seed].map(|number| number.parse::<u64>().map_err(io::Error::other));
     compare::compare(programs, jobs? as usize, seed?)
+}
+
+fn compare_bench_programs(bench: &str, names: &str, texts: &str, seed: &str) -> io::Result<()> {
+    let [texts, seed] = [texts, seed].map(|number| number.parse::<u64>().map_err(io::Error::other));
+    compare_bench::compare(bench, names, texts? as usize, seed?)
 }
 
 /// The job in a directory; a missing file is empty.

@@ -1,5 +1,6 @@
 //! This grader in the place of the programs that it is compared with: it reads their files and prints what they should.
 
+use crate::bench_programs::{Program, FILE};
 use crate::bytes::LentJob;
 use crate::probe::{prints, read_call};
 use crate::program::{self, FILES};
@@ -30,5 +31,14 @@ pub fn random(seed: &str, units: &str) -> io::Result<()> {
     match answer.done {
         Ok(length) => io::stdout().write_all(&answer.result[..length]),
         Err(_) => Err(io::Error::other(format!("random: {}: the judge refuses it", answer.words()))),
+    }
+}
+
+/// `bench` or `names` on the file of its argument.
+pub fn of_text(program: Program, arguments: &[&str]) -> io::Result<()> {
+    let text = fs::read(arguments.first().unwrap_or(&FILE))?;
+    match program.print(&text) {
+        Ok(bytes) => io::stdout().write_all(&bytes),
+        Err(refusal) => Err(io::Error::other(program.telling(refusal) + "the judge refuses it")),
     }
 }

@@ -2,7 +2,8 @@
 
 use std::collections::HashMap;
 use std::process::{self, Command, Stdio};
-use std::{env, fs, io, path::Path, path::PathBuf};
+use std::time::{Duration, Instant};
+use std::{env, fs, fs::File, io, path::Path, path::PathBuf, thread};
 
 /// What a program wrote to standard output and to standard error, and whether it ended with exit code 0.
 #[derive(PartialEq)]
@@ -11,6 +12,18 @@ pub struct Run {
     pub errors: Vec<u8>,
     pub succeeded: bool,
 }
+
+impl Run {
+    /// That it wrote one line to standard error, which begins so and goes on in words.
+    pub fn tells(&self, beginning: &str) -> bool {
+        let text = String::from_utf8_lossy(&self.errors);
+        let words = text.strip_prefix(beginning).and_then(|words| words.strip_suffix('\n'));
+        words.is_some_and(|words| !words.is_empty() && !words.contains('\n'))
+    }
+}
+
+/// How long to wait before looking again whether a program has ended.
+const PAUSE: Duration = Duration::from_micros(50);
 
 pub struct Scratch {
     /// Holds the directory of the job and those kept.
@@ -54,6 +67,31 @@ impl Scratch {
     pub fn run(&self, program: &Path, arguments: &[&str]) -> io::Result<Run> {
         let output = Command::new(program).args(arguments).current_dir(self.job()).stdin(Stdio::null()).output()?;
         Ok(Run { print: output.stdout, errors: output.stderr, succeeded: output.status.code() == Some(0) })
+    }
+
+    /// A run that is ended after so long; standard error then says so.
+    pub fn run_within(&self, program: &Path, arguments: &[&str], limit: Duration) -> io::Result<Run> {
+        let [print, errors] = ["standard-output", "standard-error"].map(|name| self.job().join(name));
+        let mut command = Command::new(program);
+        command.args(arguments).current_dir(self.job()).stdin(Stdio::null());
+        let mut child = command.stdout(File::create(&print)?).stderr(File::create(&errors)?).spawn()?;
+        let begun = Instant::now();
+        let ended = loop {
+            match child.try_wait()? {
+                None if begun.elapsed() < limit => thread::sleep(PAUSE),
+                ended => break ended,
+            }
+        };
+        let mut run = Run { print: fs::read(print)?, errors: fs::read(errors)?, succeeded: false };
+        match ended {
+            Some(status) => run.succeeded = status.code() == Some(0),
+            None => {
+                child.kill()?;
+                child.wait()?;
+                run.errors.extend(format!("ended after {} s\n", limit.as_secs()).bytes());
+            }
+        }
+        Ok(run)
     }
 
     /// Keeps the files in a directory of their own, with further ones beside them.

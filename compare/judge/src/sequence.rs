@@ -3,7 +3,6 @@
 use crate::calls::Answer;
 use crate::generate::GenerateCall;
 use crate::program::AREA_LEN;
-use crate::refusals::Refusal;
 use crate::scratch::Run;
 
 /// The file circuit.dat and both arguments, each in decimal, or 0x and hexadecimal digits.
@@ -31,15 +30,8 @@ pub fn number(text: &str) -> usize {
 pub fn agrees(answer: &Answer, run: &Run) -> bool {
     match answer.done {
         Ok(length) => run.succeeded && run.print == answer.result[..length] && run.errors.is_empty(),
-        Err(refusal) => run.print.is_empty() && tells(&run.errors, refusal),
+        Err((number, position)) => run.print.is_empty() && run.tells(&format!("random: refused {number} {position}: ")),
     }
-}
-
-/// That this is one line that begins with number and position of the refusal and goes on in words.
-fn tells(errors: &[u8], (number, position): Refusal) -> bool {
-    let text = String::from_utf8_lossy(errors);
-    let words = text.strip_prefix(&format!("random: refused {number} {position}: "));
-    words.and_then(|words| words.strip_suffix('\n')).is_some_and(|words| !words.is_empty() && !words.contains('\n'))
 }
 
 #[cfg(test)]

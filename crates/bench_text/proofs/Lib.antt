@@ -6,4 +6,5 @@ pub mod Sentences
 pub mod Records
 pub mod Passed
 pub mod Read
+pub mod Vectors
 pub mod Theorems

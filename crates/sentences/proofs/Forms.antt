@@ -21,10 +21,13 @@ use Rattle.sentences.specs.Line.{Tells}
 use Rattle.sentences.proofs.Laws.{token-kept, pins-kept, head-length}
 
 -- ---- the code's answers
+abbrev pub next-of : Line → ℕ
+next-of l = l .next
+
 module _ (parts : List ℕ) (s : Sentence) (next : ℕ) where
   -- no name and no pins
-  pub tells-none : (sort : ℕ) → s ≡ record { sort = sort; name = noPart; pins = [] } → Tells parts s (record { sort = sort; at = 0; size = 0; first = 0; pins = 0; next = next })
-  tells-none sort e = rw e (record {
+  pub tells-none : (sort : ℕ) (l : Line) → l ≡ record { sort = sort; at = 0; size = 0; first = 0; pins = 0; next = next } → s ≡ record { sort = sort; name = noPart; pins = [] } → Tells parts s l
+  tells-none sort l is e = rw (is, e) (record {
     sort = refl;
     at = refl;
     size = refl;

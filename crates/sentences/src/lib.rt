@@ -159,6 +159,20 @@ fn kind_in(text: &[u8], parts: &[usize], count: usize, pins: usize) -> u8
     kind
 }
 
+// A text line of this sort, with no name and no pins.
+fn without(sort: u8, next: usize) -> Line
+    ensures { λ r. ⌜ r ≡ record { sort = sort; at = 0; size = 0; first = 0; pins = 0; next = next } ⌝ }
+{
+    Line {
+        sort,
+        at: 0,
+        size: 0,
+        first: 0,
+        pins: 0,
+        next,
+    }
+}
+
 // What tokens say that are of one of the last two forms, or of none.
 fn gate_told(text: &[u8], parts: &[usize], count: usize, next: usize) -> Line
     requires { ⌜ TokensKept (now text) (now parts) count ⌝ }
@@ -166,26 +180,12 @@ fn gate_told(text: &[u8], parts: &[usize], count: usize, next: usize) -> Line
     ensures tells { λ r. ⌜ Tells (now (parts .entry)) (gateSentence (now (text .entry)) (kept (now (parts .entry)) count)) r ⌝ }
 {
     if count < 4 {
-        return Line {
-            sort: MALFORMED,
-            at: 0,
-            size: 0,
-            first: 0,
-            pins: 0,
-            next,
-        };
+        return without(MALFORMED, next);
     }
     let pins = (count - 4) / 2;
     let kind = kind_in(text, parts, count, pins);
     if kind == 0 {
-        return Line {
-            sort: MALFORMED,
-            at: 0,
-            size: 0,
-            first: 0,
-            pins: 0,
-            next,
-        };
+        return without(MALFORMED, next);
     }
     Line {
         sort: kind,
@@ -204,14 +204,7 @@ fn told(text: &[u8], parts: &[usize], count: usize, next: usize) -> Line
     ensures tells { λ r. ⌜ Tells (now (parts .entry)) (sentence (now (text .entry)) (kept (now (parts .entry)) count)) r ⌝ }
 {
     if count == 0 {
-        return Line {
-            sort: NOTHING,
-            at: 0,
-            size: 0,
-            first: 0,
-            pins: 0,
-            next,
-        };
+        return without(NOTHING, next);
     }
     if is_call(text, parts, count, b"INPUT") {
         return Line {
@@ -247,14 +240,7 @@ pub fn read_line(text: &[u8], at: usize, parts: &mut [usize]) -> Line
     let to = bytes::scan::find(text, at, end, 35);
     let count = tokens::scan(text, at, to, parts);
     if 12 < count {
-        return Line {
-            sort: MALFORMED,
-            at: 0,
-            size: 0,
-            first: 0,
-            pins: 0,
-            next: end + 1,
-        };
+        return without(MALFORMED, end + 1);
     }
     told(text, parts, count, end + 1)
 }

@@ -7,7 +7,7 @@ use Rattle.lists.proofs.Tests.{by-test}
 use Rattle.bench_text.specs.Sentence.{lineKind, isLine}
 use Rattle.tokens.specs.Kept.{kept}
 use Rattle.sentences.proofs.Laws.{pins-kept}
-use Rattle.sentences.proofs.Forms.{tells-none, tells-gate, gate-short, gate-none, line-few, gate-some, line-of-kind}
+use Rattle.sentences.proofs.Forms.{next-of, tells-none, tells-gate, gate-short, gate-none, line-few, gate-some, line-of-kind}
 use Rattle.sentences.proofs.gate_told.Statement.{statement}
 use Rattle.sentences.proofs.gate_told.Tie as tie
 
@@ -16,13 +16,15 @@ start c = c .before .before .before .before
 
 returns : tie.Need-returns
 returns c =
-    let s = c .before .before .before .args in
-    (refl, tells-none _ _ _ 12 (gate-short (s .text .now) (s .parts .now) (s .count) (c .if1 .taken)))
+    let e = c .before in
+    let s = e .before .before .before .args in
+    (ap next-of (c .without .ensures), tells-none _ _ _ 12 _ (c .without .ensures) (gate-short (s .text .now) (s .parts .now) (s .count) (e .if1 .taken)))
 
 returns-2 : tie.Need-returns-2
 returns-2 c =
-    let s = start (c .before) .args in
-    (refl, tells-none _ _ _ 12 (gate-none (s .text .now) (s .parts .now) (s .count) (sym (c .before .kind-in .ensures) ∙ c .if2 .taken)))
+    let e = c .before in
+    let s = start (e .before) .args in
+    (ap next-of (c .without2 .ensures), tells-none _ _ _ 12 _ (c .without2 .ensures) (gate-none (s .text .now) (s .parts .now) (s .count) (sym (e .before .kind-in .ensures) ∙ e .if2 .taken)))
 
 returns-3 : tie.Need-returns-3
 returns-3 c =
@@ -36,8 +38,10 @@ pub gate-told-spec : {M : Type 1} → statement M
 gate-told-spec =
     tie.close
     (tie.spec
+    (λ c κs. search needs)
     returns
     (λ c κs. (let s = c .before .before .before in (s .pre, omega (arith, c .if1 .left), sym (pins-kept (s .args .text .now) (s .args .parts .now) (s .args .count)))))
+    (λ c κs. search needs)
     returns-2
     (λ c. search needs)
     (λ c. search needs)

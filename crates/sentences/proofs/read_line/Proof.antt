@@ -8,7 +8,7 @@ use Rattle.bench_text.specs.Sentence.{sentence, sentenceFrom}
 use Rattle.bench_text.proofs.Sentences.{many-malformed}
 use Rattle.tokens.specs.Kept.{kept}
 use Rattle.sentences.specs.Line.{Tells}
-use Rattle.sentences.proofs.Forms.{tells-none}
+use Rattle.sentences.proofs.Forms.{next-of, tells-none}
 use Rattle.sentences.proofs.Ends.{next-line, content-part, tokens-kept}
 use Rattle.sentences.proofs.read_line.Statement.{statement}
 use Rattle.sentences.proofs.read_line.Tie as tie
@@ -36,13 +36,14 @@ all c few = c .scan .ensures .1 .all few ∙ scanned c
 returns : tie.Need-returns
 unfolding sentenceFrom
 returns c =
-    let d = c .before .before .before in
+    let many = c .before in
+    let d = many .before .before .before in
     let s = start (found d) in
     let text = s .args .text .now in (
       d .scan .ensures .0,
       (
-        next-line text (s .args .at) _ (s .pre .0) (found d .before .find .ensures .0),
-        tells-none _ _ _ 12 (many-malformed text (lineTokens text (s .args .at)) (rw (← scanned d) (d .scan .ensures .1 .more (c .if1 .taken)))),
+        ap next-of (c .without .ensures) ∙ next-line text (s .args .at) _ (s .pre .0) (found d .before .find .ensures .0),
+        tells-none _ _ _ 12 _ (c .without .ensures) (many-malformed text (lineTokens text (s .args .at)) (rw (← scanned d) (d .scan .ensures .1 .more (many .if1 .taken)))),
       ),
     )
 
@@ -75,6 +76,7 @@ read-line-spec =
     (λ c κs. search needs)
     (λ c κs. search needs)
     (λ c. search needs)
+    (λ c κs. search needs)
     (λ c. search needs)
     returns
     (λ c. search needs)

@@ -9,7 +9,7 @@ use Rattle.bench_text.specs.Sentence.{inputWord, outputWord, isCall, sentence}
 use Rattle.tokens.specs.Kept.{kept}
 use Rattle.tokens.proofs.Laws.{length-kept}
 use Rattle.sentences.specs.Line.{Tells}
-use Rattle.sentences.proofs.Forms.{tells-none, tells-input, tells-output, call-token}
+use Rattle.sentences.proofs.Forms.{next-of, tells-none, tells-input, tells-output, call-token}
 use Rattle.sentences.proofs.told.Statement.{statement}
 use Rattle.sentences.proofs.told.Tie as tie
 
@@ -28,8 +28,8 @@ other c = sym (c .before .before .before .is-call .ensures) ∙ c .before .befor
 returns : tie.Need-returns
 unfolding sentence
 returns c =
-    let s = c .before .before .before .args in
-    (refl, tells-none _ _ _ 11 (rw (length-kept (s .parts .now) (s .count), eq-eqb _ _ (c .if1 .taken))))
+    let s = c .before .before .before .before .args in
+    (ap next-of (c .without .ensures), tells-none _ _ _ 11 _ (c .without .ensures) (rw (length-kept (s .parts .now) (s .count), eq-eqb _ _ (c .before .if1 .taken))))
 
 returns-2 : tie.Need-returns-2
 unfolding sentence
@@ -58,6 +58,7 @@ pub told-spec : {M : Type 1} → statement M
 told-spec =
     tie.close
     (tie.spec
+    (λ c κs. search needs)
     returns
     (λ c. search needs)
     (λ c κs. search needs)
