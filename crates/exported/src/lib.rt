@@ -9,6 +9,7 @@ ghost use Rattle.faults.specs.Given.{laneFault};
 ghost use Rattle.job.specs.Job.{answerOf, JobOf};
 ghost use Rattle.model.specs.Grade.{gradeAnswer, gradeArea};
 ghost use Rattle.model.specs.Choose.{chooseAnswer, chooseArea};
+ghost use Rattle.bench_text.specs.Bench.{readAnswer, readArea};
 ghost use Rattle.exported.specs.Detected.{opposed, detected};
 ghost use Rattle.exported.specs.Answered.{answered};
 use job::Job;
@@ -127,4 +128,13 @@ pub extern "C" fn balithoomai_choose(
     ensures writes { λ r. ⌜ now (result .exit) ≡ chooseArea (now (circuit .entry)) (now (test .entry)) (now (faults .entry)) k (length (now (work .entry))) (now (result .entry)) ⌝ }
 {
     in_numbers(choose::choose(circuit, test, faults, k, work, result))
+}
+
+// `read_bench`, as programs in other languages call it.
+#[no_mangle]
+pub extern "C" fn balithoomai_read_bench(text: &[u8], result: &mut [u8]) -> Answered
+    ensures answers { λ r. ⌜ answered r ≡ readAnswer (now (text .entry)) (length (now (result .entry))) ⌝ }
+    ensures writes { λ r. ⌜ now (result .exit) ≡ readArea (now (text .entry)) (now (result .entry)) ⌝ }
+{
+    in_numbers(read_bench::read_bench(text, result))
 }
