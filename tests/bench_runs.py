@@ -110,8 +110,8 @@ for program in PROGRAMS:
         status, written, said = run(program, files, arguments)
         if (status, written, said) != (0, output, error):
             wrong += 1
-            print(f'{program} {[a[:30] for a in arguments]} on {({name: data[:60] for name, data in files.items()})}: status {status}, {len(written)} bytes on standard '
-                  f'output for {len(output)}, told {said[:200]!r} for {error!r}')
+            print(f'{program} {[word[:30] for word in arguments]} on {[(name, data[:60]) for name, data in files.items()]}: status {status},',
+                  f'{len(written)} bytes on standard output for {len(output)}, told {said[:100]!r} for {error[:100]!r}')
     # a device that takes nothing
     with open('/dev/full', 'wb') as full:
         _, _, said = run(program, {DEFAULT: S27}, [], full)

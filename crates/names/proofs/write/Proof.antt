@@ -1,15 +1,11 @@
 -- The print has room for 4,096 lines; what is not named is found by the search.
-use Prim.Native.Nat.{ℕ}
 use native.Mathlib.Omega.{arith}
-use lib.ListN.{length-replicate}
 use borrow.Author.Needs.{needs}
 use Rattle.names.proofs.write.Statement.{statement}
 use Rattle.names.proofs.write.Tie as tie
 
 put-names-requires : tie.Need-put-names-requires
-put-names-requires c κs =
-    let named = c .before .before .before .pre in
-    (rw (length-replicate {A = ℕ} 155648 0) (omega (arith, named .few)), named)
+put-names-requires c κs = let named = c .before .before .before .pre in (omega (arith, named .few), named)
 
 pub write-spec : {M : Type 1} → statement M
 write-spec =
