@@ -1,4 +1,4 @@
-// What the programs `bench` and `names` share: the text that the argument names, read into an area, and a refusal told in words, with the name of the
+// What the programs `bench` and `names` share, and bench_test with them: the text that the argument names, read into an area, and a refusal told in words, with the name of the
 // program that tells it.
 ghost use mathlib.Core.Path.{_≡_};
 ghost use lib.ListN.{length};

@@ -113,7 +113,8 @@ fn field(lines: &[usize], pins: usize, i: usize) -> usize
     if i < pins { lines[i] } else { 0 }
 }
 
-// The record of a line of this kind, with the mark that it has and the lines that its pins name, at the area's beginning.
+// The record of a line of this kind at the area's beginning, with the mark that stands there, which is written again, and the lines that its
+// pins name.
 pub fn write_line(area: &mut [u8], kind: u8, pins: u8, lines: &[usize])
     requires { ⌜ (12 ≤ length (now area)) × (length (now lines) ≡ 4) ⌝ }
     ensures { λ _. ⌜ now (area .exit) ≡ overwritten (recordOf kind pins (getD (now (area .entry)) 2 0) (now (lines .entry))) (now (area .entry)) ⌝ }

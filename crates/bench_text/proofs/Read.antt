@@ -37,6 +37,10 @@ module _ (text : List ℕ) (e : textRefusal text ≡ none) where
   unfolding nameOf namePart partUnless
   name-of n h = rw (e, lt-ltb n (lineCount text) h)
 
+  given-name : (n : ℕ) → n < lineCount text → nameOf text n ≡ bytesOf text (definitionOf text n .name)
+  unfolding nameAt
+  given-name n h = name-of n h
+
   -- the line of a name has that name
   name-of-line : (name : List ℕ) → lineNamed text name < lineCount text → nameOf text (lineNamed text name) ≡ name
   unfolding named
@@ -95,6 +99,7 @@ module _ (text : List ℕ) (e : textRefusal text ≡ none) where
     all = refl;
     kinds = λ m h. record-kind text m h;
     pinCounts = λ m h. record-pinCount text m h;
+    given = given-name;
     pins = pin-name;
     outputs = λ m h. (output-told m h, told-output m h);
     names = proper;

@@ -7,7 +7,7 @@ use lib.ListN.{replicate}
 use Rattle.lists.specs.Scan.{first, firstAnswer, anyBelow, countBelow, select, tabulate, gather}
 use Rattle.lists.specs.Field.{word16, bytes16, overwritten}
 use Rattle.model.specs.Inputs.{N, kind, pinCount, outputMark, spareByte, pinLine, isInput, isFlipFlop, isGate, isOutput, I, F, O}
-use Rattle.model.specs.Refusals.{refuse, row1, pinsFit, unusedNamed, strayBytes, misnamed, misnames, rows2to5, row6, circuitRows, row14, done, refused, answer, unlessRefused}
+use Rattle.model.specs.Refusals.{refuse, row1, pinsFit, unusedNamed, strayBytes, misnamed, misnames, rows2to5, row6, circuitRows, row14, refused, answer, unlessRefused}
 use Rattle.bench_text.specs.Text.{bytesOf, same, upTo, lineBytes, nextLine, lineStart, textLines, isNameByte, runBefore, byteAt, tokens, lineTokens}
 use Rattle.bench_text.specs.Sentence.{kindFrom, kindOf, token, is, isName, isCall, pinTokens, isPin, lineKind, isHead, isLine, gateSentence, sentence, sentenceFrom, sentenceAt}
 use Rattle.bench_text.specs.Bench.{defines, linesAbove, definitions, lineCount, definitionOf, nameAt, named, lineNamed, pinNames, reach, definedAgain, undefinedPin, sentenceRefusal, lineRefusal, textRows, marks, markOf, pinField, lineRecord, benchRecords, textRefusal, readRefusal, readAnswer, readArea, partUnless, namePart, nameOf}

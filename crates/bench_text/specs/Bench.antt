@@ -1,7 +1,7 @@
 -- The circuit that a bench text describes, why a text is refused, and what the calls that read one return.
-use Prim.Native.Nat.{ℕ, _+_, _*_}
+use Prim.Native.Nat.{ℕ, _*_}
 use mathlib.Core.Bool.{Bool, cond, _&&_}
-use mathlib.Core.List.{List, [], _∷_, _++_}
+use mathlib.Core.List.{List, _∷_}
 use mathlib.Core.Option.{Option·getD, none, some}
 use lib.ListN.{getD, length}
 use lib.Dec.{eqb, leb, ltb}

@@ -23,14 +23,16 @@ pub record ProperName (name : List ℕ) : Type 0 where
   pub most : length name ≤ 32
   pub bytes : (i : ℕ) → i < length name → isNameByte (getD name i 0) ≡ true
 
--- Of n records c: rows 1 to 6 pass them; each line is of the kind that its text line defines; a pin names the line whose name stands there;
--- a line is an output exactly where an OUTPUT has its name; and two lines never have one name.
+-- Of n records c: rows 1 to 6 pass them; there are as many as definitions; each line has the kind, as many pins and the name that its text
+-- line gives it; a pin names the line whose name stands there; a line is an output exactly where an OUTPUT has its name; names are 1 to 32
+-- letters, digits or underscores; and two lines never have one name.
 pub record WellRead (text : List ℕ) (n : ℕ) (c : List ℕ) : Type 0 where
   pub accepted : circuitRows c ≡ none
   pub size : N c ≡ n
   pub all : lineCount text ≡ n
   pub kinds : (m : ℕ) → m < n → kind c m ≡ definitionOf text m .sort
   pub pinCounts : (m : ℕ) → m < n → pinCount c m ≡ length (definitionOf text m .pins)
+  pub given : (m : ℕ) → m < n → nameOf text m ≡ bytesOf text (definitionOf text m .name)
   pub pins : (m i : ℕ) → m < n → i < pinCount c m → nameOf text (pinLine c m (suc i)) ≡ pinName text (definitionOf text m) i
   pub outputs : (m : ℕ) → m < n → (isOutput c m ≡ true)
       ↔ ((j : ℕ) × (j < textLines text) × (sentenceAt text j .sort ≡ OUTPUT) × (pinName text (sentenceAt text j) 0 ≡ nameOf text m))

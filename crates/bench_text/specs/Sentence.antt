@@ -1,4 +1,4 @@
--- What a text line says: the eight forms. A line that is no circuit line is told by a sort above 9, the highest kind.
+-- What a text line says: the four forms. A text line that defines no circuit line has a sort above 9, the highest kind.
 use Prim.Native.Nat.{ℕ, suc, _+_, _*_, _-_, _/_}
 use mathlib.Core.Bool.{Bool, cond, not, _&&_}
 use mathlib.Core.List.{List, [], _∷_}

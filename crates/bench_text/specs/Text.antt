@@ -40,7 +40,7 @@ module _ (text : List ℕ) where
   lineStart zero = 0
   lineStart (suc j) = nextLine (lineStart j)
 
-  -- how many begin within the text; each but the last has its byte 10, so there are no more than bytes
+  -- how many begin within the text; each but the last has its byte 10, so there are no more of them than bytes
   unfoldable pub textLines : ℕ
   textLines = countBelow (λ j. ltb (lineStart j) (length text)) (length text)
 
@@ -48,14 +48,16 @@ module _ (text : List ℕ) where
 unfoldable pub isNameByte : ℕ → Bool
 isNameByte b = (leb 48 b && leb b 57) || ((leb 65 b && leb b 90) || (eqb b 95 || (leb 97 b && leb b 122)))
 
--- The tokens of these bytes, the first of which stands at place `at` in the text: each longest run of letters, digits and underscores, and
--- each other byte that is no space (byte 32). The last `run` bytes before `at` belong to a run that goes on.
+-- the run of so many bytes that ends before `at`
 unfoldable pub runBefore : ℕ → ℕ → List Part
 runBefore at run = cond (eqb run 0) [] (record { at = at - run; size = run } ∷ [])
 
+-- the byte there, unless it is a space (byte 32)
 unfoldable pub byteAt : ℕ → ℕ → List Part
 byteAt at b = cond (eqb b 32) [] (record { at = at; size = 1 } ∷ [])
 
+-- The tokens of these bytes, the first of which stands at place `at` in the text: each longest run of letters, digits and underscores, and
+-- each other byte that is no space. The last `run` bytes before `at` belong to a run that goes on.
 unfoldable pub tokens : ℕ → ℕ → List ℕ → List Part
 tokens at run [] = runBefore at run
 tokens at run (b ∷ bs) = cond (isNameByte b) (tokens (suc at) (suc run) bs) (runBefore at run ++ byteAt at b ++ tokens (suc at) 0 bs)

@@ -1,16 +1,15 @@
 -- A walk over the text lines, one further: what the text line here defines, and what is known behind the last.
 use mathlib.Core.Path.{_≡_, refl, sym, ap, _∙_}
-use mathlib.Core.Bool.{true, false, cond}
+use mathlib.Core.Bool.{true, false}
 use mathlib.Core.List.{List}
-use mathlib.Core.Option.{Option·getD, none, some}
+use mathlib.Core.Option.{Option·getD}
 use Prim.Native.Nat.{ℕ, suc, _+_, _≤_, _<_}
 use native.Mathlib.Omega.{arith}
 use native.Mathlib.Decide.{decLe}
-use lib.Dec.{leb}
 use lib.ListN.{length}
 use borrow.Author.Tests.{le-leb, lt-leb}
-use Rattle.lists.specs.Scan.{first, countBelow}
-use Rattle.lists.proofs.Scan.{Lowest, first-fails, first-lowest, countBelow-bound}
+use Rattle.lists.specs.Scan.{countBelow}
+use Rattle.lists.proofs.Scan.{first-fails, first-lowest, countBelow-bound}
 use Rattle.bench_text.specs.Text.{nextLine, lineStart, textLines}
 use Rattle.bench_text.specs.Sentence.{Sentence, sentenceFrom, sentenceAt}
 use Rattle.bench_text.specs.Bench.{defines, linesAbove, lineCount, definitionOf, nameAt, named, lineNamed}

@@ -2,9 +2,8 @@
 // has is looked for in the text lines behind them.
 ghost use mathlib.Core.Bool.{false};
 ghost use mathlib.Core.Path.{_≡_};
-ghost use Prim.Native.Nat.{ℕ, _+_, _≤_, _<_};
-ghost use lib.ListN.{length};
-ghost use Rattle.bench_text.specs.Text.{bytesOf, same};
+ghost use Prim.Native.Nat.{ℕ, _+_, _<_};
+ghost use Rattle.bench_text.specs.Text.{same};
 ghost use Rattle.bench_text.specs.Bench.{named, lineNamed};
 ghost use Rattle.lookup.specs.Lookup.{Held};
 ghost use Rattle.definitions.specs.Reached.{Reached, Collected};

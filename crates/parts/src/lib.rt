@@ -11,12 +11,12 @@ pub fn same(a: &[u8], b: &[u8]) -> bool
     if a.len() != b.len() {
         return false;
     }
-    let mut i: usize = 0;
-    while i < a.len() {
-        if a[i] != b[i] {
+    let mut at: usize = 0;
+    while at < a.len() {
+        if a[at] != b[at] {
             return false;
         }
-        i += 1;
+        at += 1;
     }
     true
 }

@@ -1,5 +1,5 @@
 -- What is found of a text: that it is refused, or its lines.
-use mathlib.Core.Path.{_≡_, refl, sym, ap, _∙_}
+use mathlib.Core.Path.{_≡_, refl, sym, _∙_}
 use mathlib.Core.Bool.{Bool, true, false, not, _||_}
 use mathlib.Core.List.{List, []}
 use mathlib.Core.Option.{none, some, orElse}
@@ -8,9 +8,8 @@ use lib.Dec.{eqb}
 use native.Mathlib.Omega.{arith}
 use lib.ListN.{length, take}
 use borrow.Author.Tests.{lt-ltb, le-ltb}
-use Rattle.lists.specs.Scan.{_else_}
 use Rattle.lists.proofs.Scan.{else-found, else-skips}
-use Rattle.model.specs.Refusals.{refuse, row1, circuitRows, row14, Answer, done, refused, answer}
+use Rattle.model.specs.Refusals.{refuse, row1, circuitRows, row14, done, refused, answer}
 use Rattle.model.proofs.Accepted.{answer-refused, answered, turned-away}
 use Rattle.bench_text.specs.Text.{bytesOf}
 use Rattle.bench_text.specs.Bench.{lineCount, textRows, benchRecords, textRefusal, readRefusal, nameAt, partUnless, namePart, nameOf}

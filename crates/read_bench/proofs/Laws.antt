@@ -1,34 +1,29 @@
 -- A text line as the code tells it, and what is refused and written there.
 use mathlib.Core.Path.{_≡_, refl, sym, ap, ap₂, _∙_}
-use mathlib.Core.Bool.{Bool, true, false, cond, _&&_}
+use mathlib.Core.Bool.{Bool, false, cond, _&&_}
 use mathlib.Core.List.{List}
 use mathlib.Core.Option.{none}
-use mathlib.Mathlib.Data.Option.Basic.{orElse-eq-none}
-use Prim.Native.Nat.{ℕ, suc, _+_, _*_, _≤_, _<_}
+use Prim.Native.Nat.{ℕ, suc, _+_, _≤_, _<_}
 use native.Mathlib.Omega.{arith}
 use native.Mathlib.Decide.{decLe}
 use lib.Dec.{eqb, leb, ltb}
 use lib.ListN.{getD, length}
 use borrow.Author.Tests.{le-leb, lt-leb, leb-false}
 use Rattle.lists.specs.Scan.{_else_, anyBelow}
-use Rattle.lists.specs.Field.{rowOf}
 use Rattle.lists.proofs.Tests.{by-eq}
 use Rattle.lists.proofs.Scan.{anyBelow-same, anyBelow-false}
 use Rattle.model.specs.Refusals.{refuse}
-use Rattle.model.proofs.Accepted.{refuse-none}
-use Rattle.bench_text.specs.Text.{Part, bytesOf, nextLine, textLines}
-use Rattle.bench_text.specs.Sentence.{Sentence, OUTPUT, noPart, sentence, sentenceFrom, sentenceAt}
-use Rattle.bench_text.specs.Bench.{linesAbove, lineCount, definitionOf, lineNamed, pinNames, reach, definedAgain, undefinedPin, sentenceRefusal, lineRefusal}
-use Rattle.bench_text.proofs.Laws.{sentence-here}
+use Rattle.bench_text.specs.Text.{bytesOf, nextLine}
+use Rattle.bench_text.specs.Sentence.{sentenceFrom, sentenceAt}
+use Rattle.bench_text.specs.Bench.{lineCount, lineNamed, pinNames, reach, definedAgain, undefinedPin, sentenceRefusal, lineRefusal}
 use Rattle.bench_text.proofs.Sentences.{pins-few, output-pin, name-ends, pin-ends}
-use Rattle.tokens.specs.Kept.{partOf}
 use Rattle.sentences.specs.declared.Line.{Line}
 use Rattle.sentences.specs.Line.{Tells}
 use Rattle.definitions.specs.Reached.{Reached}
 use Rattle.definitions.proofs.Laws.{sentence-reached, reached-passed, reached-defined, reached-below, reached-definition, reached-as}
 use Rattle.bench_line.specs.Pins.{PinsKept, pinLineOf, ownLine, reachOf}
 use Rattle.bench_line.proofs.Laws.{last-passed}
-use Rattle.read_bench.specs.Noted.{Noted, marked, defined, Noting, NotesLine}
+use Rattle.read_bench.specs.Noted.{Noted, Noting, NotesLine}
 use Rattle.read_bench.proofs.Rows.{noted-passed, noted-output, noted-defined}
 
 rows-same : {a b c a′ b′ c′ : Bool} (m n k at : ℕ) → a ≡ a′ → b ≡ b′ → c ≡ c′

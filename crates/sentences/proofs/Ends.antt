@@ -1,18 +1,16 @@
 -- Where a text line ends, where its comment begins, and its tokens.
 use mathlib.Core.Path.{_≡_, refl, sym, ap, _∙_}
-use mathlib.Core.Bool.{true, false}
-use mathlib.Core.List.{List, [], _∷_, _++_}
-use Prim.Native.Nat.{ℕ, suc, _+_, _-_, _≤_, _<_}
+use mathlib.Core.List.{List, [], _∷_}
+use Prim.Native.Nat.{ℕ, suc, _+_, _-_, _≤_}
 use native.Mathlib.Omega.{arith}
 use lib.Dec.{eqb}
-use lib.ListN.{getD, length, take, drop, length-drop}
+use lib.ListN.{length, take, drop, length-drop}
 use lib.Seq.{take-length, take-add, take-take, drop-at, length-take-le}
 use Rattle.bytes.specs.Bytes.{slice, indexAfter, indexOf}
 use Rattle.lists.proofs.Tests.{by-test}
-use Rattle.bench_text.specs.Text.{Part, upTo, lineBytes, nextLine, lineTokens}
-use Rattle.bench_text.specs.Sentence.{noPart}
+use Rattle.bench_text.specs.Text.{upTo, lineBytes, nextLine, lineTokens}
 use Rattle.bench_text.proofs.Tokens.{upTo-take, upTo-length, line-token}
-use Rattle.tokens.specs.Kept.{partOf, kept}
+use Rattle.tokens.specs.Kept.{kept}
 use Rattle.tokens.proofs.Laws.{length-kept, getD-kept}
 use Rattle.sentences.specs.Line.{TokensKept}
 

@@ -2,17 +2,16 @@
 use mathlib.Core.Path.{_≡_, refl, sym, ap, _∙_}
 use mathlib.Core.Bool.{true, false, cond, _&&_}
 use mathlib.Core.List.{List, [], _∷_}
-use Prim.Native.Nat.{ℕ, suc, _+_, _*_, _-_, _/_, _≤_, _<_}
+use Prim.Native.Nat.{ℕ, _+_, _*_, _-_, _/_, _≤_, _<_}
 use native.Mathlib.Omega.{arith}
-use lib.Dec.{eqb, leb}
+use lib.Dec.{eqb}
 use lib.ListN.{getD, length}
-use borrow.Author.Tests.{eqb-true, leb-true, ne-eqb}
+use borrow.Author.Tests.{leb-true}
 use Rattle.lists.specs.Scan.{tabulate}
-use Rattle.lists.proofs.Tests.{and-left, and-right, by-test, is-false, clash}
+use Rattle.lists.proofs.Tests.{and-left, and-right, by-test, is-false}
 use Rattle.lists.proofs.Scan.{length-tabulate, getD-tabulate, tabulate-same}
 use Rattle.model.proofs.Accepted.{few-pins}
-use Rattle.bench_text.specs.Text.{Part}
-use Rattle.bench_text.specs.Sentence.{Sentence, OUTPUT, NOTHING, MALFORMED, noPart, token, is, isName, isCall, pinTokens, lineKind, isHead, isLine, gateSentence, sentence}
+use Rattle.bench_text.specs.Sentence.{Sentence, OUTPUT, MALFORMED, noPart, token, is, isName, isCall, pinTokens, lineKind, isHead, isLine, gateSentence}
 use Rattle.bench_text.proofs.Sentences.{call-name, line-name, line-pins}
 use Rattle.tokens.specs.Kept.{partOf, kept}
 use Rattle.tokens.proofs.Laws.{length-kept}

@@ -1,10 +1,8 @@
-// What a text line says: the eight forms of a bench text, told from the line's tokens.
-ghost use mathlib.Core.Bool.{cond, not, _&&_};
-ghost use mathlib.Core.List.{List};
+// What a text line says: the four forms of a bench text, told from the line's tokens.
+ghost use mathlib.Core.Bool.{cond, not};
 ghost use mathlib.Core.Path.{_≡_};
-ghost use Prim.Native.Nat.{ℕ, _+_, _*_, _<_, _≤_};
+ghost use Prim.Native.Nat.{_+_, _*_, _<_, _≤_};
 ghost use lib.ListN.{length};
-ghost use lib.Dec.{leb};
 ghost use Rattle.lists.specs.Scan.{anyBelow};
 ghost use Rattle.bench_text.specs.Text.{bytesOf, nextLine};
 ghost use Rattle.bench_text.specs.Sentence.{kindOf, is, isName, isCall, pinTokens, isPin, lineKind, isHead, isLine, gateSentence, sentence, sentenceFrom};
@@ -14,7 +12,7 @@ ghost use Rattle.sentences.specs.Line.{TokensKept, Tells};
 // Sorts of a text line that defines no circuit line; one that does has the line's kind.
 pub const OUTPUT: u8 = 10;
 
-pub const NOTHING: u8 = 11;
+const NOTHING: u8 = 11;
 
 pub const MALFORMED: u8 = 12;
 

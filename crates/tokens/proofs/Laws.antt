@@ -1,14 +1,13 @@
 -- Tokens kept one behind the other, and how the tokens of a line go on behind a byte.
 use mathlib.Core.Path.{_≡_, refl, sym, ap, _∙_}
 use mathlib.Core.Bool.{true, false, cond, not}
-use mathlib.Core.List.{List, [], _∷_, _++_, append-nil, append-assoc}
+use mathlib.Core.List.{List, [], _∷_, _++_, append-assoc}
 use Prim.Native.Nat.{ℕ, zero, suc, _+_, _*_, _-_, _≤_, _<_}
 use native.Mathlib.Omega.{arith}
 use native.Mathlib.Decide.{decLe}
 use lib.Dec.{eqb}
 use lib.ListN.{getD, length, set, take, drop, length-set, length-append, List·getD-append}
 use lib.Seq.{drop-cons, getD-set-same, getD-set-other, getD-append-add}
-use borrow.Author.Tests.{eq-eqb, ne-eqb}
 use Rattle.lists.proofs.Tests.{by-test}
 use Rattle.bench_text.specs.Text.{Part, isNameByte, runBefore, byteAt, tokens}
 use Rattle.bench_text.specs.Sentence.{noPart}

@@ -7,7 +7,7 @@ ghost use lib.ListN.{length, take, drop};
 ghost use Rattle.bench_text.specs.Text.{isNameByte, tokens};
 ghost use Rattle.tokens.specs.Kept.{kept, partIf, Scanned};
 
-// Words for the tokens of a text line: twelve, and three by which a line has too many.
+// Words for 16 tokens, two each: no form has more than 12, and up to three more are kept before a scan stops.
 pub const PARTS: usize = 32;
 
 // Whether the byte is a letter, a digit or an underscore.

@@ -1,10 +1,9 @@
 use mathlib.Core.Path.{_≡_, refl, sym, ap, _∙_}
 use mathlib.Core.Bool.{Bool, not}
-use Prim.Native.Nat.{ℕ}
 use lib.Dec.{leb}
 use borrow.Author.Needs.{needs}
 use Rattle.lists.specs.Scan.{anyBelow}
-use Rattle.bench_line.specs.Pins.{pinLineOf, reachOf, LineChecked}
+use Rattle.bench_line.specs.Pins.{pinLineOf, reachOf}
 use Rattle.bench_line.proofs.Laws.{last-passed, three-rows, not-not}
 use Rattle.bench_line.proofs.check_line.Statement.{statement}
 use Rattle.bench_line.proofs.check_line.Tie as tie

@@ -1,4 +1,4 @@
-use mathlib.Core.Path.{_≡_, sym, _∙_}
+use mathlib.Core.Path.{sym, _∙_}
 use borrow.Author.Needs.{needs}
 use Rattle.bench_line.proofs.reach_of.Statement.{statement}
 use Rattle.bench_line.proofs.reach_of.Tie as tie

@@ -1,8 +1,7 @@
 -- The first i pins name lines below `reach`, which are in `lines`.
 use mathlib.Core.Path.{_≡_, refl, sym, ap, _∙_}
-use mathlib.Core.Bool.{true, false, not, false≢true}
-use Prim.Native.Nat.{ℕ, _+_, _*_, _-_, _≤_, _<_}
-use native.Mathlib.Numerals.{add-one}
+use mathlib.Core.Bool.{false, not, false≢true}
+use Prim.Native.Nat.{ℕ, _-_, _≤_, _<_}
 use native.Mathlib.Omega.{arith}
 use lib.Dec.{leb}
 use lib.ListN.{getD, length, length-set}
@@ -11,7 +10,7 @@ use borrow.Author.Tests.{le-leb, lt-leb}
 use Rattle.lists.specs.Scan.{anyBelow}
 use Rattle.lists.proofs.Scan.{anyBelow-turn, anyBelow-stop}
 use Rattle.bench_text.specs.Bench.{lineNamed}
-use Rattle.bench_line.specs.Pins.{PinsKept, pinLineOf}
+use Rattle.bench_line.specs.Pins.{pinLineOf}
 use Rattle.bench_line.proofs.Laws.{found-more}
 use Rattle.bench_line.proofs.resolve.Statement.{statement}
 use Rattle.bench_line.proofs.resolve.Tie as tie

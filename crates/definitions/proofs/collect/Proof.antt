@@ -10,7 +10,7 @@ use Rattle.bench_text.specs.Sentence.{sentenceFrom}
 use Rattle.bench_text.specs.Bench.{nameAt}
 use Rattle.bench_text.proofs.Sentences.{line-name-ends}
 use Rattle.lookup.specs.Lookup.{Held}
-use Rattle.definitions.specs.Reached.{Reached, Collected}
+use Rattle.definitions.specs.Reached.{Reached}
 use Rattle.definitions.proofs.Laws.{reached-first, reached-as, reached-end, reached-passed, reached-defined, reached-name, reached-most, next-further, held-all}
 use Rattle.definitions.proofs.collect.Statement.{statement}
 use Rattle.definitions.proofs.collect.Tie as tie

@@ -1,6 +1,4 @@
-use mathlib.Core.Path.{_≡_}
 use native.Mathlib.Omega.{arith}
-use borrow.Author.Needs.{needs}
 use Rattle.lists.proofs.Scan.{given-first, given-none, first-some, first-none}
 use Rattle.definitions.proofs.Laws.{line-found}
 use Rattle.definitions.proofs.find.Statement.{statement}

@@ -1,13 +1,13 @@
 -- The walk has come to a text line with `line` definitions above it, none of which has the name.
 use mathlib.Core.Path.{_≡_, refl, sym, ap, _∙_}
-use mathlib.Core.Bool.{true, false}
+use mathlib.Core.Bool.{false}
 use Prim.Native.Nat.{ℕ, suc, _+_, _-_, _≤_, _<_}
 use native.Mathlib.Omega.{arith}
 use lib.ListN.{length, take, drop}
 use borrow.Author.Needs.{needs}
 use Rattle.bench_text.specs.Text.{Part, bytesOf, same}
 use Rattle.bench_text.specs.Sentence.{sentenceFrom}
-use Rattle.bench_text.specs.Bench.{named, lineNamed}
+use Rattle.bench_text.specs.Bench.{named}
 use Rattle.bench_text.proofs.Sentences.{name-ends}
 use Rattle.definitions.specs.Reached.{Reached}
 use Rattle.definitions.proofs.Laws.{next-further, reached-end, reached-passed, reached-defined, reached-below, reached-name, reached-most, none-more, line-found, line-missing}

@@ -2,21 +2,20 @@
 -- these say is noted.
 use mathlib.Core.Path.{_≡_, refl, sym, ap, _∙_}
 use mathlib.Core.Option.{none, Option·some-ne-none}
-use Prim.Native.Nat.{ℕ, suc, _+_, _-_, _≤_, _<_}
+use Prim.Native.Nat.{ℕ, _+_, _-_, _≤_, _<_}
 use native.Mathlib.Numerals.{add-one}
 use native.Mathlib.Omega.{arith}
 use lib.ListN.{getD, length}
 use borrow.Author.Needs.{needs}
 use Rattle.lists.specs.Scan.{firstAnswer}
 use Rattle.lists.proofs.Scan.{firstAnswer-turn, firstAnswer-stop}
-use Rattle.bench_text.specs.Text.{textLines}
 use Rattle.bench_text.specs.Bench.{lineCount, lineRefusal, textRows}
 use Rattle.rules.specs.Check.{refusalOf}
 use Rattle.rules.specs.declared.Check.the-variants.{Passed}
 use Rattle.definitions.specs.Reached.{Reached}
 use Rattle.bench_line.specs.Pins.{pinLineOf}
 use Rattle.definitions.proofs.Laws.{next-further, reached-first, reached-line, reached-least, reached-most, reached-end}
-use Rattle.read_bench.specs.Noted.{Noted, Noting, NotesLine, AllNoted}
+use Rattle.read_bench.specs.Noted.{Noted}
 use Rattle.read_bench.proofs.Laws.{pins-held, name-within, refused-here, reached-next, noting, noted-next}
 use Rattle.read_bench.proofs.check_lines.Statement.{statement}
 use Rattle.read_bench.proofs.check_lines.Tie as tie

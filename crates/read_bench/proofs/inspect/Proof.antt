@@ -1,7 +1,7 @@
 use mathlib.Core.Path.{_≡_, refl, sym, ap, _∙_}
 use mathlib.Core.List.{List}
-use mathlib.Core.Option.{none, some}
-use Prim.Native.Nat.{ℕ, _*_, _≤_, _<_}
+use mathlib.Core.Option.{none}
+use Prim.Native.Nat.{ℕ, _*_, _≤_}
 use native.Mathlib.Omega.{arith}
 use lib.ListN.{length, take}
 use lib.Seq.{length-take-le}
@@ -12,9 +12,6 @@ use Rattle.rules.specs.Check.{refusalOf}
 use Rattle.rules.specs.declared.Check.the-variants.{Passed}
 use Rattle.rules.proofs.Laws.{sized-none, unsized-some, passed-none, broken-some}
 use Rattle.job.specs.Job.{answerOf}
-use Rattle.lookup.specs.Lookup.{Held}
-use Rattle.definitions.specs.Reached.{Collected}
-use Rattle.read_bench.specs.Noted.{AllNoted, Inspected}
 use Rattle.read_bench.proofs.Rows.{noted-none, noted-all}
 use Rattle.read_bench.proofs.Found.{many-lines, rows-fail, rows-pass, found-refused, found-lines, held-as}
 use Rattle.read_bench.proofs.inspect.Statement.{statement}

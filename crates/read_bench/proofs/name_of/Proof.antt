@@ -1,12 +1,10 @@
-use mathlib.Core.Path.{_≡_, refl, sym, ap, _∙_}
+use mathlib.Core.Path.{_≡_, refl, ap, _∙_}
 use mathlib.Core.Option.{none}
 use Prim.Native.Nat.{_<_}
 use native.Mathlib.Omega.{arith}
-use lib.ListN.{take, drop}
 use borrow.Author.Needs.{needs}
-use borrow.Author.Tests.{lt-ltb, le-ltb}
 use Rattle.bench_text.specs.Text.{bytesOf}
-use Rattle.bench_text.specs.Bench.{lineCount, textRefusal, partUnless, namePart, nameOf}
+use Rattle.bench_text.specs.Bench.{lineCount, textRefusal}
 use Rattle.model.specs.Refusals.{done}
 use Rattle.job.specs.Job.{answerOf}
 use Rattle.lookup.proofs.Laws.{none-held, held-row, held-part}

@@ -1,7 +1,6 @@
-use mathlib.Core.Path.{_≡_, refl}
+use mathlib.Core.Path.{refl}
 use native.Mathlib.Omega.{arith}
 use borrow.Author.Needs.{needs}
-use Rattle.read_bench.specs.Noted.{Noting, NotesLine}
 use Rattle.read_bench.proofs.note.Statement.{statement}
 use Rattle.read_bench.proofs.note.Tie as tie
 

@@ -1,11 +1,6 @@
-use mathlib.Core.Path.{_≡_, refl, sym, ap, _∙_}
-use mathlib.Core.Bool.{true, cond}
-use Prim.Native.Nat.{ℕ}
+use mathlib.Core.Path.{refl, sym, ap, _∙_}
 use native.Mathlib.Omega.{arith}
 use borrow.Author.Needs.{needs}
-use Rattle.lists.proofs.Tests.{by-test}
-use Rattle.bench_text.specs.Sentence.{lineKind, isLine}
-use Rattle.tokens.specs.Kept.{kept}
 use Rattle.sentences.proofs.Laws.{pins-kept}
 use Rattle.sentences.proofs.Forms.{next-of, tells-none, tells-gate, gate-short, gate-none, line-few, gate-some, line-of-kind}
 use Rattle.sentences.proofs.gate_told.Statement.{statement}

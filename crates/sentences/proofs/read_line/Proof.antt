@@ -1,13 +1,12 @@
-use mathlib.Core.Path.{_≡_, sym, ap, _∙_}
-use Prim.Native.Nat.{ℕ, _-_, _≤_}
+use mathlib.Core.Path.{_≡_, ap, _∙_}
+use Prim.Native.Nat.{_-_, _≤_}
 use native.Mathlib.Omega.{arith}
-use lib.ListN.{length, take, drop}
+use lib.ListN.{take, drop}
 use borrow.Author.Needs.{needs}
 use Rattle.bench_text.specs.Text.{tokens, lineTokens}
-use Rattle.bench_text.specs.Sentence.{sentence, sentenceFrom}
+use Rattle.bench_text.specs.Sentence.{sentenceFrom}
 use Rattle.bench_text.proofs.Sentences.{many-malformed}
 use Rattle.tokens.specs.Kept.{kept}
-use Rattle.sentences.specs.Line.{Tells}
 use Rattle.sentences.proofs.Forms.{next-of, tells-none}
 use Rattle.sentences.proofs.Ends.{next-line, content-part, tokens-kept}
 use Rattle.sentences.proofs.read_line.Statement.{statement}

@@ -3,7 +3,7 @@ use Prim.Native.Nat.{_+_, _*_, _-_, _≤_}
 use native.Mathlib.Omega.{arith}
 use lib.ListN.{getD, length, take, drop}
 use borrow.Author.Needs.{needs}
-use Rattle.bench_text.specs.Text.{Part, bytesOf}
+use Rattle.bench_text.specs.Text.{bytesOf}
 use Rattle.tokens.specs.Kept.{partOf}
 use Rattle.sentences.proofs.token.Statement.{statement}
 use Rattle.sentences.proofs.token.Tie as tie

@@ -1,6 +1,5 @@
 use mathlib.Core.Path.{_≡_, refl, sym, ap, _∙_}
-use mathlib.Core.Bool.{true, false}
-use native.Mathlib.Omega.{arith}
+use mathlib.Core.Bool.{false}
 use lib.ListN.{length}
 use lib.Dec.{eqb}
 use borrow.Author.Needs.{needs}
@@ -8,7 +7,6 @@ use borrow.Author.Tests.{eq-eqb, ne-eqb}
 use Rattle.bench_text.specs.Sentence.{inputWord, outputWord, isCall, sentence}
 use Rattle.tokens.specs.Kept.{kept}
 use Rattle.tokens.proofs.Laws.{length-kept}
-use Rattle.sentences.specs.Line.{Tells}
 use Rattle.sentences.proofs.Forms.{next-of, tells-none, tells-input, tells-output, call-token}
 use Rattle.sentences.proofs.told.Statement.{statement}
 use Rattle.sentences.proofs.told.Tie as tie

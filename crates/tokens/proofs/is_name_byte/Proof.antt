@@ -1,4 +1,3 @@
-use mathlib.Core.Path.{_≡_}
 use borrow.Author.Needs.{needs}
 use Rattle.bench_text.specs.Text.{isNameByte}
 use Rattle.tokens.proofs.is_name_byte.Statement.{statement}

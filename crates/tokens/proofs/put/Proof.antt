@@ -1,11 +1,11 @@
-use mathlib.Core.Path.{_≡_, sym, ap, _∙_}
-use mathlib.Core.List.{_++_, append-nil}
+use mathlib.Core.Path.{sym}
+use mathlib.Core.List.{append-nil}
 use native.Mathlib.Numerals.{add-one}
 use native.Mathlib.Omega.{arith}
 use lib.ListN.{length-set}
 use borrow.Author.Needs.{needs}
 use borrow.Author.Tests.{eq-eqb, ne-eqb}
-use Rattle.tokens.specs.Kept.{kept, partIf}
+use Rattle.tokens.specs.Kept.{partIf}
 use Rattle.tokens.proofs.Laws.{kept-put}
 use Rattle.tokens.proofs.put.Statement.{statement}
 use Rattle.tokens.proofs.put.Tie as tie

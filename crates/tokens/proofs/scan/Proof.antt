@@ -1,15 +1,14 @@
 -- The last `run` bytes before place i belong to a run of name bytes that goes on; the tokens that end before it are kept, and those of the
 -- bytes from i on make up, with them, all of the line's.
 use mathlib.Core.Path.{_≡_, refl, sym, ap, _∙_}
-use mathlib.Core.Bool.{false}
-use mathlib.Core.List.{List, [], _∷_, _++_, append-nil}
-use Prim.Native.Nat.{ℕ, suc, _+_, _-_, _≤_, _<_}
+use mathlib.Core.List.{List, _∷_, _++_}
+use Prim.Native.Nat.{ℕ, suc, _-_, _≤_}
 use native.Mathlib.Numerals.{add-one}
 use native.Mathlib.Omega.{arith}
-use lib.ListN.{getD, length, take, drop, length-append}
+use lib.ListN.{getD, length, take, drop}
 use borrow.Author.Needs.{needs}
-use Rattle.bench_text.specs.Text.{Part, isNameByte, runBefore, byteAt, tokens}
-use Rattle.tokens.specs.Kept.{kept, partIf, Scanned}
+use Rattle.bench_text.specs.Text.{runBefore, tokens}
+use Rattle.tokens.specs.Kept.{kept, partIf}
 use Rattle.tokens.proofs.Laws.{rest-cons, goes-on, ends, byte-part, scanned-all, scanned-more}
 use Rattle.tokens.proofs.scan.Statement.{statement}
 use Rattle.tokens.proofs.scan.Tie as tie
