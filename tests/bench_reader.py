@@ -1,5 +1,5 @@
-"""A reader of bench text for the tests, independent of the crates: written from document 02's request Four alone and in another style, with regular
-expressions for the forms of a text line, a dictionary for the names and no tables.
+"""A reader of bench text for the tests, independent of the crates: written from document 02's request Four and its readings alone, and in another
+style, with regular expressions for the forms of a text line, a dictionary for the names and no tables.
 """
 import re
 
