@@ -3,7 +3,7 @@ use mathlib.Core.Path.{_≡_, refl, sym, ap, _∙_}
 use mathlib.Core.Bool.{true, false}
 use mathlib.Core.List.{List}
 use mathlib.Core.Option.{Option·getD}
-use Prim.Native.Nat.{ℕ, suc, _+_, _≤_, _<_}
+use Prim.Native.Nat.{ℕ, suc, _+_, _-_, _≤_, _<_}
 use native.Mathlib.Omega.{arith}
 use native.Mathlib.Decide.{decLe}
 use lib.ListN.{length}
@@ -23,10 +23,10 @@ reached-first text = record { begins = refl; above = refl; within = λ i h. absu
 pub reached-as : (text : List ℕ) (j at n m : ℕ) → m ≡ n → Reached text j at n → Reached text j at m
 reached-as text j at n m e r = rw e r
 
--- the next text line begins further on
-pub next-further : (text : List ℕ) (at to : ℕ) → to ≡ nextLine text at → at < to
+-- the next text line begins further on, so that less of the text is left
+pub less-left : (text : List ℕ) (at to : ℕ) → at < length text → to ≡ nextLine text at → length text - to < length text - at
 unfolding nextLine
-next-further text at to e = omega arith
+less-left text at to h e = omega arith
 
 module _ (text : List ℕ) (j at n : ℕ) (r : Reached text j at n) where
   -- the text line's sentence

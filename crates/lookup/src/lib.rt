@@ -14,6 +14,12 @@ ghost use Rattle.lookup.specs.Lookup.{rowPart, RowWithin, Held};
 // How many lines the tables have room for.
 pub const HELD: usize = 4096;
 
+// Words of `names`, three a line.
+pub const NAMES: usize = 12288;
+
+// Words of `heads`, one a hash.
+pub const HEADS: usize = 4096;
+
 // Holds line n, whose name is this part of the text.
 pub fn hold(text: &[u8], names: &mut [usize], heads: &mut [usize], n: usize, at: usize, size: usize)
     requires { ⌜ (Held (now text) (now names) (now heads) n) × (n < 4096)

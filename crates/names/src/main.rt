@@ -6,8 +6,8 @@ ghost use lib.ListN.{length};
 ghost use Rattle.io.specs.Counts.{Counts};
 ghost use Rattle.names.specs.Named.{Named};
 use job::Outcome;
-use lookup::HELD;
-use read_bench::NAMES;
+use lookup::HEADS;
+use lookup::NAMES;
 use read_bench::RECORDS;
 
 // Room for 4,096 lines of 38 bytes: a number of four digits, a space, a name of 32 bytes and byte 10.
@@ -56,7 +56,7 @@ fn write(text: &[u8], names: &[usize; NAMES], count: usize)
 // The names of the text's lines, or why there are none.
 fn list(text: &[u8]) {
     let mut names = [0usize; NAMES];
-    let mut heads = [0usize; HELD];
+    let mut heads = [0usize; HEADS];
     let mut records = [0u8; RECORDS];
     match read_bench::inspect(text, &mut names, &mut heads, &mut records) {
         Outcome::Refused { rule, at } => bench_file::tell_refused(b"names", rule, at),

@@ -13,15 +13,15 @@ ghost use Rattle.definitions.specs.Reached.{Collected};
 ghost use Rattle.read_bench.specs.Noted.{Noted, marked, defined, Noting, NotesLine, AllNoted, Inspected};
 use definitions::Known;
 use job::Outcome;
+use lookup::HEADS;
 use lookup::HELD;
+use lookup::NAMES;
 use rules::Check;
 use rules::CircuitCheck;
 use sentences::Line;
 use tokens::PARTS;
 
-// Words for the names of the lines that are held, three a line, and bytes for their records, twelve a line.
-pub const NAMES: usize = 12288;
-
+// Bytes for the records of the lines that are held, twelve a line.
 pub const RECORDS: usize = 49152;
 
 // Marks line n as an output.
@@ -131,7 +131,7 @@ pub fn read_bench(text: &[u8], result: &mut [u8]) -> Outcome
     ensures promise { λ r. ⌜ ReadsBench (now (text .entry)) (answerOf r) (now (result .exit)) ⌝ }
 {
     let mut names = [0usize; NAMES];
-    let mut heads = [0usize; HELD];
+    let mut heads = [0usize; HEADS];
     let mut records = [0u8; RECORDS];
     match inspect(text, &mut names, &mut heads, &mut records) {
         Outcome::Refused { rule, at } => Outcome::Refused { rule, at },
@@ -151,7 +151,7 @@ pub fn name_of(text: &[u8], line: usize) -> &[u8]
     ensures { λ r. ⌜ now r ≡ nameOf (now (text .entry)) line ⌝ }
 {
     let mut names = [0usize; NAMES];
-    let mut heads = [0usize; HELD];
+    let mut heads = [0usize; HEADS];
     let mut records = [0u8; RECORDS];
     match inspect(text, &mut names, &mut heads, &mut records) {
         Outcome::Refused { rule: _, at: _ } => &text[0..0],

@@ -11,7 +11,7 @@ use Rattle.bench_text.specs.Bench.{nameAt}
 use Rattle.bench_text.proofs.Sentences.{line-name-ends}
 use Rattle.lookup.specs.Lookup.{Held}
 use Rattle.definitions.specs.Reached.{Reached}
-use Rattle.definitions.proofs.Laws.{reached-first, reached-as, reached-end, reached-passed, reached-defined, reached-name, reached-most, next-further, held-all}
+use Rattle.definitions.proofs.Laws.{reached-first, reached-as, reached-end, reached-passed, reached-defined, reached-name, reached-most, less-left, held-all}
 use Rattle.definitions.proofs.collect.Statement.{statement}
 use Rattle.definitions.proofs.collect.Tie as tie
 
@@ -36,9 +36,9 @@ read c = c .before .before .before .before .before .before .before
 loop-holds : tie.Need-loop-holds Inv-loop μ-loop
 loop-holds c = (refl, c .before .before .before .pre, omega arith, (λ h. refl), (0, reached-first _), (0, reached-first _))
 
--- the next text line begins further on
+-- less of the text is left
 further : (c : tie.After-read-line Inv-loop μ-loop) → length (start (turn c) .args .text .now) - c .read-line .result .next < length (start (turn c) .args .text .now) - turn c .loop .at
-further c = omega (arith, c .before .before .loop-test .taken, next-further _ _ _ (c .read-line .ensures .1 .0))
+further c = less-left _ _ _ (c .before .before .loop-test .taken) (c .read-line .ensures .1 .0)
 
 -- there are fewer definitions than bytes
 few : (c : tie.After-read-line Inv-loop μ-loop) → turn c .loop .lines < length (start (turn c) .args .text .now)

@@ -10,7 +10,7 @@ use Rattle.bench_text.specs.Sentence.{sentenceFrom}
 use Rattle.bench_text.specs.Bench.{named}
 use Rattle.bench_text.proofs.Sentences.{name-ends}
 use Rattle.definitions.specs.Reached.{Reached}
-use Rattle.definitions.proofs.Laws.{next-further, reached-end, reached-passed, reached-defined, reached-below, reached-name, reached-most, none-more, line-found, line-missing}
+use Rattle.definitions.proofs.Laws.{less-left, reached-end, reached-passed, reached-defined, reached-below, reached-name, reached-most, none-more, line-found, line-missing}
 use Rattle.definitions.proofs.find_behind.Statement.{statement}
 use Rattle.definitions.proofs.find_behind.Tie as tie
 
@@ -34,9 +34,9 @@ read c = c .before .before .before .before .before .before
 loop-holds : tie.Need-loop-holds Inv-loop μ-loop
 loop-holds c = let s = c .before .before in (refl, s .pre .1, s .pre .0)
 
--- the next text line begins further on
+-- less of the text is left
 further : (c : tie.After-read-line Inv-loop μ-loop) → length (start (turn c) .args .text .now) - c .read-line .result .next < length (start (turn c) .args .text .now) - turn c .loop .at
-further c = omega (arith, c .before .before .loop-test .taken, next-further _ _ _ (c .read-line .ensures .1 .0))
+further c = less-left _ _ _ (c .before .before .loop-test .taken) (c .read-line .ensures .1 .0)
 
 -- there are fewer definitions than bytes
 few : (c : tie.After-read-line Inv-loop μ-loop) → turn c .loop .line < length (start (turn c) .args .text .now)

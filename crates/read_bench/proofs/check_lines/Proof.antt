@@ -14,7 +14,7 @@ use Rattle.rules.specs.Check.{refusalOf}
 use Rattle.rules.specs.declared.Check.the-variants.{Passed}
 use Rattle.definitions.specs.Reached.{Reached}
 use Rattle.bench_line.specs.Pins.{pinLineOf}
-use Rattle.definitions.proofs.Laws.{next-further, reached-first, reached-line, reached-least, reached-most, reached-end}
+use Rattle.definitions.proofs.Laws.{less-left, reached-first, reached-line, reached-least, reached-most, reached-end}
 use Rattle.read_bench.specs.Noted.{Noted}
 use Rattle.read_bench.proofs.Laws.{pins-held, name-within, refused-here, reached-next, noting, noted-next}
 use Rattle.read_bench.proofs.check_lines.Statement.{statement}
@@ -106,9 +106,9 @@ few-text c = omega (arith, line c .before .before .loop-test .taken, reached-lea
 few-lines : (c : tie.After-one-if Inv-loop μ-loop) → turn (line c) .loop .above + c .one-if .result ≤ length (start (turn (line c)) .args .text .now)
 few-lines c = omega (arith, line c .before .before .loop-test .taken, reached-most _ _ _ _ (turn (line c) .loop .inv .2), c .one-if .ensures .1)
 
--- the next text line begins further on
+-- less of the text is left
 further : (c : tie.After-one-if Inv-loop μ-loop) → let l = turn (line c) in length (start l .args .text .now) - line c .read-line .result .next < length (start l .args .text .now) - l .loop .at
-further c = let e = line c in omega (arith, e .before .before .loop-test .taken, next-further _ _ _ (e .read-line .ensures .1 .0))
+further c = let e = line c in less-left _ _ _ (e .before .before .loop-test .taken) (e .read-line .ensures .1 .0)
 
 loop-again : tie.Need-loop-again Inv-loop μ-loop
 loop-again c =
