@@ -30,7 +30,7 @@ module _ (a b : List ℕ) (i : ℕ) where
   same-end h k = rw (drop-of-length-le a h, drop-of-length-le b k)
 
 module _ (h : ℕ) (name : List ℕ) (i : ℕ) where
-  pub hash-more : i < length name → hashFrom h (drop i name) ≡ hashFrom ((31 * h + getD name i 0) % 65536) (drop (i + 1) name)
+  pub hash-more : i < length name → hashFrom h (drop i name) ≡ hashFrom ((25173 * h + getD name i 0) % 65536) (drop (i + 1) name)
   unfolding hashFrom
   hash-more l = rw (add-one i, drop-cons name i 0 l)
 

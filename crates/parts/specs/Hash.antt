@@ -5,7 +5,7 @@ use mathlib.Core.List.{List, [], _∷_}
 -- what the number h becomes with these bytes behind those that it stands for
 unfoldable pub hashFrom : ℕ → List ℕ → ℕ
 hashFrom h [] = h
-hashFrom h (b ∷ bs) = hashFrom ((31 * h + b) % 65536) bs
+hashFrom h (b ∷ bs) = hashFrom ((25173 * h + b) % 65536) bs
 
 -- below 4,096
 unfoldable pub hashOf : List ℕ → ℕ

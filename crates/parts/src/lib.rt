@@ -28,7 +28,7 @@ pub fn hash(name: &[u8]) -> usize
     let mut h: usize = 0;
     let mut i: usize = 0;
     while i < name.len() {
-        h = (31 * h + basics::wide(name[i])) % 65536;
+        h = (25173 * h + basics::wide(name[i])) % 65536;
         i += 1;
     }
     h % 4096
