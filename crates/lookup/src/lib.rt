@@ -37,7 +37,8 @@ pub fn hold(text: &[u8], names: &mut [usize], heads: &mut [usize], n: usize, at:
 // The part of the text that is line n's name.
 pub fn name<'a>(text: &'a [u8], names: &[usize], n: usize) -> &'a [u8]
     requires { ⌜ RowWithin (now text) (now names) n ⌝ }
-    ensures { λ r. ⌜ now r ≡ bytesOf (now (text .entry)) (rowPart (now (names .entry)) n) ⌝ }
+    ensures bytes { λ r. ⌜ now r ≡ bytesOf (now (text .entry)) (rowPart (now (names .entry)) n) ⌝ }
+    ensures place { λ r. ⌜ (r .ptr .0 ≡ text .entry .ptr .0) × (r .ptr .1 ≡ rowPart (now (names .entry)) n .at + text .entry .ptr .1) ⌝ }
 {
     let at = names[3 * n];
     let end = at + names[3 * n + 1];

@@ -1,9 +1,9 @@
 -- What is found of a text: that it is refused, or its lines.
 use mathlib.Core.Path.{_≡_, refl, sym, _∙_}
 use mathlib.Core.Bool.{Bool, true, false, not, _||_}
-use mathlib.Core.List.{List, []}
+use mathlib.Core.List.{List}
 use mathlib.Core.Option.{none, some, orElse}
-use Prim.Native.Nat.{ℕ, _*_, _%_, _≤_, _<_}
+use Prim.Native.Nat.{ℕ, _+_, _*_, _%_, _≤_, _<_}
 use lib.Dec.{eqb}
 use native.Mathlib.Omega.{arith}
 use lib.ListN.{length, take}
@@ -11,7 +11,8 @@ use borrow.Author.Tests.{lt-ltb, le-ltb}
 use Rattle.lists.proofs.Scan.{else-found, else-skips}
 use Rattle.model.specs.Refusals.{refuse, row1, circuitRows, row14, done, refused, answer}
 use Rattle.model.proofs.Accepted.{answer-refused, answered, turned-away}
-use Rattle.bench_text.specs.Text.{bytesOf}
+use Rattle.bench_text.specs.Text.{Part, bytesOf}
+use Rattle.bench_text.specs.Sentence.{noPart}
 use Rattle.bench_text.specs.Bench.{lineCount, textRows, benchRecords, textRefusal, readRefusal, nameAt, partUnless, namePart, nameOf}
 use Rattle.bench_text.proofs.Records.{length-records}
 use Rattle.job.specs.declared.Outcome.{Outcome}
@@ -93,16 +94,21 @@ module _ (text : List ℕ) (result : ℕ) where
   unfolding readRefusal row14 refuse orElse
   read-done e h = rw (e, le-ltb result (12 * lineCount text) h)
 
--- the name of a number that is no line, or of a text that is refused, is empty
+-- ---- the part that is line n's name: of a number that is no line, or of a text that is refused, the empty one
 module _ (text : List ℕ) (n : ℕ) where
-  pub name-refused : (q : ℕ × ℕ) → textRefusal text ≡ some q → [] ≡ nameOf text n
-  unfolding nameOf namePart partUnless bytesOf
-  name-refused q e = rw e
+  pub part-refused : (q : ℕ × ℕ) → textRefusal text ≡ some q → namePart text n ≡ noPart
+  unfolding namePart partUnless
+  part-refused q e = rw e
 
-  pub name-none : textRefusal text ≡ none → lineCount text ≤ n → [] ≡ nameOf text n
-  unfolding nameOf namePart partUnless bytesOf
-  name-none e h = rw (e, le-ltb n (lineCount text) h)
+  pub part-none : textRefusal text ≡ none → lineCount text ≤ n → namePart text n ≡ noPart
+  unfolding namePart partUnless
+  part-none e h = rw (e, le-ltb n (lineCount text) h)
 
-  pub name-line : textRefusal text ≡ none → n < lineCount text → bytesOf text (nameAt text n) ≡ nameOf text n
-  unfolding nameOf namePart partUnless
-  name-line e h = rw (e, lt-ltb n (lineCount text) h)
+  pub part-line : textRefusal text ≡ none → n < lineCount text → namePart text n ≡ nameAt text n
+  unfolding namePart partUnless
+  part-line e h = rw (e, lt-ltb n (lineCount text) h)
+
+-- what is handed back of it, where it begins at this place of the text
+pub handed : (text : List ℕ) (n from : ℕ) (p : Part) → namePart text n ≡ p → (bytesOf text p ≡ nameOf text n) × (p .at + from ≡ namePart text n .at + from)
+unfolding nameOf
+handed text n from p e = rw e (refl, refl)

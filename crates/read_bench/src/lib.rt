@@ -1,10 +1,10 @@
 // The calls that read bench text: `read_bench`, which writes a circuit's records, and `name_of`, which hands back the name of a line. A text is
 // walked twice: once to hold the names of its lines, and once to check its text lines in order and to write the records.
 ghost use mathlib.Core.Path.{_≡_};
-ghost use Prim.Native.Nat.{ℕ, _<_};
+ghost use Prim.Native.Nat.{ℕ, _+_, _<_};
 ghost use lib.ListN.{length, replicate};
 ghost use Rattle.lists.specs.Field.{rowOf};
-ghost use Rattle.bench_text.specs.Bench.{textRows, readAnswer, readArea, nameOf};
+ghost use Rattle.bench_text.specs.Bench.{textRows, readAnswer, readArea, namePart, nameOf};
 ghost use Rattle.bench_text.specs.Promises.{ReadsBench};
 ghost use Rattle.rules.specs.Check.{refusalOf};
 ghost use Rattle.job.specs.Job.{answerOf};
@@ -148,7 +148,8 @@ pub fn read_bench(text: &[u8], result: &mut [u8]) -> Outcome
 
 // The name of a line, as the part of the text where it is defined; see README.md, Calls.
 pub fn name_of(text: &[u8], line: usize) -> &[u8]
-    ensures { λ r. ⌜ now r ≡ nameOf (now (text .entry)) line ⌝ }
+    ensures bytes { λ r. ⌜ now r ≡ nameOf (now (text .entry)) line ⌝ }
+    ensures place { λ r. ⌜ (r .ptr .0 ≡ text .entry .ptr .0) × (r .ptr .1 ≡ namePart (now (text .entry)) line .at + text .entry .ptr .1) ⌝ }
 {
     let mut names = [0usize; NAMES];
     let mut heads = [0usize; HEADS];

@@ -12,7 +12,7 @@ start c = c .before .before .before .before
 -- the test is whether line n has the name
 tested : (c : tie.After-same) → let s = start (c .before) .args in
     c .same .result ≡ same (bytesOf (s .text .now) (rowPart (s .names .now) (s .n))) (s .wanted .now)
-tested c = c .same .ensures ∙ ap (λ x. same x (start (c .before) .args .wanted .now)) (c .before .name .ensures)
+tested c = c .same .ensures ∙ ap (λ x. same x (start (c .before) .args .wanted .now)) (c .before .name .ensures .0)
 
 returns : tie.Need-returns
 returns c = rw (sym (tested (c .before)) ∙ c .if1 .taken)

@@ -1,4 +1,4 @@
-use mathlib.Core.Path.{_≡_}
+use mathlib.Core.Path.{_≡_, refl}
 use Prim.Native.Nat.{_+_, _-_}
 use native.Mathlib.Omega.{arith}
 use borrow.Author.Needs.{needs}
@@ -16,7 +16,7 @@ unfolding bytesOf
 returns c =
     let part = rowPart (start c .args .names .now) (start c .args .n) in
     let whole : part .at + part .size - part .at ≡ part .size = omega arith in
-    rw whole
+    (rw whole, (refl, refl))
 
 pub name-spec : {M : Type 1} → statement M
 name-spec =

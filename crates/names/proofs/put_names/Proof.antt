@@ -35,7 +35,7 @@ put-line-requires c κs =
     let below = in-loop .loop-test .taken in (
       omega (arith, start l .pre .0, named .few, below, l .loop .inv),
       omega (arith, named .few, below),
-      name-short named _ below (c .name .ensures),
+      name-short named _ below (c .name .ensures .0),
     )
 
 loop-again : tie.Need-loop-again Inv-loop μ-loop
