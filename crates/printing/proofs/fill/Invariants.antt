@@ -1,0 +1,9 @@
+-- The place stays within the area.
+use Rattle.std.proofs.Common.{◌≤◌, ◌-◌, length}
+use Rattle.printing.proofs.fill.Given as goal
+
+abbrev pub invariant-loop-done : goal.invariant-loop-done
+invariant-loop-done g l = l.done ≤ length l.area
+
+abbrev pub decreases-loop-done : goal.decreases-loop-done
+decreases-loop-done g l = length l.initial.area - l.done
