@@ -104,11 +104,14 @@ def respelled(text, path, names):
         out += text[at:start] + names.get(word, word)
         at = end
     out += text[at:]
-    if path.endswith(".antt"):
-        out = out.replace("·", ".").replace(".specs.specs.", ".specs.")
-        out = re.sub(r"\((\w+'*) (\.\w+)\)", r"\1\2", out)
-        out = re.sub(r"(?<=[\w')]) (\.\w+)", r"\1", out)
     return out
+
+
+def tight(text):
+    """Paths and projections of the older spelling, as they are written today."""
+    text = re.sub(r"(?<=\w)·(?=\w)", ".", text).replace(".specs.specs.", ".specs.")
+    text = re.sub(r"\((\w+'*) (\.\w+)\)", r"\1\2", text)
+    return re.sub(r"(?<=[\w')]) (\.\w+)", r"\1", text)
 
 
 class Beside:
@@ -189,7 +192,7 @@ def global_names(commit):
     for path in listed.stdout.splitlines():
         if re.search(r"/specs/.*\.antt$", path) and os.path.exists(path):
             with open(path, encoding="utf-8") as f:
-                for word, today in Beside(shown(commit, path), f.read(), path, {}).names.items():
+                for word, today in Beside(tight(shown(commit, path)), f.read(), path, {}).names.items():
                     if word != today:
                         out.setdefault(word, today)
     return out
@@ -211,6 +214,9 @@ def bring(commit, write, parts):
             with open(file, encoding="utf-8") as f:
                 after = f.read()
             turned = []
+            if file.endswith(".antt"):
+                before = tight(before)
+                pairs = [(tight(old), tight(new)) for old, new in pairs]
             for old, new in pairs:
                 old_today, new_today = Beside(before, after, file, names if file.endswith(".antt") else {}).carried(old, new)
                 before = before.replace(old, new)
@@ -238,18 +244,21 @@ def bring(commit, write, parts):
 RUST = set("if else match let mut for in while loop return break continue true false as use fn pub struct enum u8 u16 u32 u64 usize bool len".split())
 
 
-def unknown(new, file, known):
-    """The names of a `new:` that neither the file nor what it imports has."""
+def unknown(old, new, file, known):
+    """The names of a `new:` that are not in its `old:`, and that neither the file nor what it imports has."""
     new = re.sub(r'b?"[^"]*"', '""', new)
-    bound = {v for m in re.finditer(r"λ ([^.]*)\.", new) for v in m.group(1).split()}
+    bound = {v for m in re.finditer(r"λ ([^.]*)\.|let (?:mut )?(\w+)", new) for v in (m.group(1) or m.group(2)).split()}
+    bound |= {w[0] for w in words(old, file)}
     for m in re.finditer(r"\bRattle\.(\w+)\.(specs|proofs)\.(\w+)\.([^\s()]+)", new):
         with open(f"crates/{m.group(1)}/{m.group(2)}/{m.group(3)}.antt", encoding="utf-8") as f:
             if not re.search(rf"^\s*(?:unfoldable |abbrev )?pub {re.escape(m.group(4))} ", f.read(), re.M):
                 yield m.group()
     new = re.sub(r"\bRattle\.[^\s()]+", "", new)
     for m in re.finditer(r"\b(\w+)::(\w+)", new):
-        named = " ".join(open(path, encoding="utf-8").read() for path in glob.glob("crates/*/src/**/*.rt", recursive=True))
-        if m.group(1) not in known or not re.search(rf"\b(?:fn|const|mod|struct|enum) {m.group(2)}\b|^\s+{m.group(2)}\b", named, re.M):
+        if m.group() in old:
+            continue
+        sources = " ".join(open(path, encoding="utf-8").read() for path in glob.glob("crates/*/src/**/*.rt", recursive=True))
+        if m.group(1) not in known or not re.search(rf"\b(?:fn|const|mod|struct|enum) {m.group(2)}\b|^\s+{m.group(2)}\b", sources, re.M):
             yield m.group()
     new = re.sub(r"(\w+)::(\w+)", "", new)
     for word, _, _ in words(new, file):
@@ -273,7 +282,11 @@ def check(parts):
             if text.count(old) != 1:
                 said.append(f"stands {text.count(old)} times: {old}")
             text = text.replace(old, new, 1)
-            said += [f"not in the file: {word}" for word in unknown(new, file, known)]
+        for old, new in pairs:
+            # what a further pair changes again is not in the end
+            if new in text:
+                said += [f"not in the file: {word}" for word in unknown(old, new, file, known)]
+                known |= {m.group(1) for m in re.finditer(r"let (?:mut )?(\w+)", new)}
         for line in said:
             print(f"{path}: {line}")
         bad += bool(said)
