@@ -36,7 +36,7 @@ capped_if false a b e = refl
 high : (base a b : ℕ) (ds : List ℕ) → 1 ≤ base → 65536 ≤ a → 65536 ≤ b → capped (with_digits base a ds) ≡ capped (with_digits base b ds)
 unfolding with_digits capped
 high base a b [] h l g = ap some (min-eq_right l ∙ sym (min-eq_right g))
-high base a b (d ∷ ds) h l g = capped_if (ltb (digit_of d) base) _ _ (high base _ _ ds h (grows base a (digit_of d) h l) (grows base b (digit_of d) h g))
+high base a b (d ∷ ds) h l g = capped_if (ltb (digit_of d) base) _ _ (high base (base * a + digit_of d) (base * b + digit_of d) ds h (grows base a (digit_of d) h l) (grows base b (digit_of d) h g))
 
 lowered : (base n : ℕ) (ds : List ℕ) → 1 ≤ base → capped (with_digits base (min n 65536) ds) ≡ capped (with_digits base n ds)
 lowered base n ds h = elim (dec_le n 65536) [

@@ -1,4 +1,6 @@
 // A number as an argument of a program gives it.
+#![tactic(auto)]
+
 ghost use Rattle.std.specs.Prelude.{◌≡◌, ◌≤◌, min, length, drop};
 ghost use Rattle.numerals.specs.Numeral.{between, digit_of, with_digits, is_hex, numeral, capped, number_of};
 
