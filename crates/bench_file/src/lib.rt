@@ -1,9 +1,12 @@
 // What the programs `bench` and `names` share, and bench_test with them: the text that the argument names, read into an area, and a refusal told in words, with the name of the
 // program that tells it.
+#![tactic(auto)]
+
 ghost use Rattle.std.specs.Prelude.{◌≡◌, length};
-ghost use Rattle.io.specs.Counts.{IsPrefixLen};
+ghost use Rattle.printing.specs.Prefix.{IsPrefixLen};
 
 use printing::tell;
+use std::rt::{Env, Files};
 
 // The longest text that the programs read.
 pub const LONGEST: usize = 2097152;
@@ -22,30 +25,31 @@ pub struct Text {
     pub whole: bool,
 }
 
-fn usage(program: &[u8], writes: &[u8]) {
-    tell(b"usage: ");
-    tell(program);
-    tell(b" [FILE]\nwrites ");
-    tell(writes);
+fn usage(rt: &impl Eprint, program: &str, writes: &str) {
+    tell(rt, "usage: ");
+    tell(rt, program);
+    tell(rt, " [FILE]\nwrites ");
+    tell(rt, writes);
     tell(
-        b" to standard output, from the bench text in FILE, or in circuit.bench where no FILE is named\n",
+        rt,
+        " to standard output, from the bench text in FILE, or in circuit.bench where no FILE is named\n",
     );
 }
 
-fn tell_missing(program: &[u8], name: &[u8]) {
-    tell(program);
-    tell(b": there is no file ");
-    tell(name);
-    tell(b"\n");
+fn tell_missing(rt: &impl Eprint, program: &str, name: &str) {
+    tell(rt, program);
+    tell(rt, ": there is no file ");
+    tell(rt, name);
+    tell(rt, "\n");
 }
 
-fn tell_longer(program: &[u8], name: &[u8], room: usize) {
-    tell(program);
-    tell(b": ");
-    tell(name);
-    tell(b" is longer than ");
-    printing::tell_number(room);
-    tell(b" bytes\n");
+fn tell_longer(rt: &impl Eprint, program: &str, name: &str, room: usize) {
+    tell(rt, program);
+    tell(rt, ": ");
+    tell(rt, name);
+    tell(rt, " is longer than ");
+    printing::tell_number(rt, room);
+    tell(rt, " bytes\n");
 }
 
 // No text; standard error says why.
@@ -59,19 +63,19 @@ fn no_text() -> Text
 }
 
 // Puts the text in the file of this name at the start of the area.
-fn read_named(program: &[u8], name: &[u8], area: &mut [u8]) -> Text
+fn read_named(rt: &(impl Files + Eprint), program: &str, name: &str, area: &mut [u8]) -> Text
     ensures { IsPrefixLen result.size area.new }
 {
-    let file = printing::read_file(name, area);
+    let file = printing::read_file(rt, name, area);
     if file.failed {
         return no_text();
     }
     if file.missing {
-        tell_missing(program, name);
+        tell_missing(rt, program, name);
         return no_text();
     }
     if file.more {
-        tell_longer(program, name, area.len());
+        tell_longer(rt, program, name, area.len());
         return no_text();
     }
     Text {
@@ -80,64 +84,91 @@ fn read_named(program: &[u8], name: &[u8], area: &mut [u8]) -> Text
     }
 }
 
-// The same of the file that the argument names.
-fn read_given(program: &[u8], area: &mut [u8]) -> Text
+// The same of the file whose name has these bytes. A path is text here, so a name that is none reaches no file.
+fn read_bytes_named(rt: &(impl Files + Eprint), program: &str, name: &[u8], area: &mut [u8]) -> Text
     ensures { IsPrefixLen result.size area.new }
 {
-    let mut name = io::buffer();
-    let size = os::arg(1, &mut name);
-    if os::errno() != 0 {
-        os::fail(program);
-        return no_text();
+    match std::str::from_utf8(name) {
+        Ok(name) => read_named(rt, program, name, area),
+        Err(_) => {
+            tell(rt, program);
+            tell(rt, ": the name of the file is not UTF-8\n");
+            no_text()
+        }
     }
-    read_named(program, &name[..size], area)
+}
+
+// The same of the file that the argument names.
+fn read_given(rt: &(impl Files + Env + Eprint), program: &str, area: &mut [u8]) -> Text
+    ensures { IsPrefixLen result.size area.new }
+{
+    let mut name = [0u8; 4096];
+    match printing::argument(rt, 1, &mut name) {
+        Ok(size) => read_bytes_named(rt, program, &name[..size], area),
+        Err(_) => {
+            tell(rt, program);
+            tell(rt, ": File name too long\n");
+            no_text()
+        }
+    }
 }
 
 // Puts the text at the start of the area: of the file that the one argument names, or of circuit.bench where there is none. The program's name
 // and what it writes are for the lines on standard error.
-pub fn read_text(program: &[u8], writes: &[u8], area: &mut [u8]) -> Text
+pub fn read_text(
+    rt: &(impl Files + Env + Eprint),
+    program: &str,
+    writes: &str,
+    area: &mut [u8],
+) -> Text
     ensures { IsPrefixLen result.size area.new }
 {
-    let count = os::arg_count();
-    if 2 < count {
-        usage(program, writes);
+    if printing::has_argument(rt, 2) {
+        usage(rt, program, writes);
         return no_text();
     }
-    if count == 2 {
-        return read_given(program, area);
+    if printing::has_argument(rt, 1) {
+        return read_given(rt, program, area);
     }
-    read_named(program, b"circuit.bench", area)
+    read_named(rt, program, "circuit.bench", area)
 }
 
 // The text line of a rule on text lines, counted from 1 as editors do.
-fn tell_line(rule: u8, at: usize) {
+fn tell_line(rt: &impl Eprint, rule: u8, at: usize) {
     if 18 <= rule {
-        tell(b" at text line ");
-        printing::tell_number(std::num::wrapping_add_usize(at, 1));
+        tell(rt, " at text line ");
+        printing::tell_number(rt, std::num::wrapping_add_usize(at, 1));
     }
 }
 
 // What a row of the table of refusals says of a text.
-fn tell_rule(rule: u8) {
+fn tell_rule(rt: &impl Eprint, rule: u8) {
     match rule {
-        1 => tell(b"the text defines no line, or more than 4096"),
-        6 => tell(b"no input or no output, or above 256 inputs, flip-flops or outputs"),
-        18 => tell(
-            b"it is of none of the forms INPUT(a), OUTPUT(a), a = DFF(b), a = NAND(b, c), with 1 pin for BUFF and NOT, 2 to 4 for AND, NAND, OR, NOR, XOR and XNOR, names of 1 to 32 letters, digits or underscores, and no tab or carriage return",
+        1 => tell(rt, "the text defines no line, or more than 4096"),
+        6 => tell(
+            rt,
+            "no input or no output, or above 256 inputs, flip-flops or outputs",
         ),
-        19 => tell(b"it defines a name that an earlier text line defines"),
-        20 => tell(b"it names something that is not defined, or for a gate not above it"),
-        _ => tell(b"a rule that this program does not know"),
+        18 => tell(
+            rt,
+            "it is of none of the forms INPUT(a), OUTPUT(a), a = DFF(b), a = NAND(b, c), with 1 pin for BUFF and NOT, 2 to 4 for AND, NAND, OR, NOR, XOR and XNOR, names of 1 to 32 letters, digits or underscores, and no tab or carriage return",
+        ),
+        19 => tell(rt, "it defines a name that an earlier text line defines"),
+        20 => tell(
+            rt,
+            "it names something that is not defined, or for a gate not above it",
+        ),
+        _ => tell(rt, "a rule that this program does not know"),
     }
 }
 
 // One line: the number, the text line where there is one, and the rule in words.
-pub fn tell_refused(program: &[u8], rule: u8, at: usize) {
-    tell(program);
-    tell(b": refused ");
-    printing::tell_number(basics::wide(rule));
-    tell_line(rule, at);
-    tell(b": ");
-    tell_rule(rule);
-    tell(b"\n");
+pub fn tell_refused(rt: &impl Eprint, program: &str, rule: u8, at: usize) {
+    tell(rt, program);
+    tell(rt, ": refused ");
+    printing::tell_number(rt, basics::wide(rule));
+    tell_line(rt, rule, at);
+    tell(rt, ": ");
+    tell_rule(rt, rule);
+    tell(rt, "\n");
 }
