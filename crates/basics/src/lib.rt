@@ -1,5 +1,7 @@
 // Numbers and tests that know nothing of circuits: bytes in full width, 16-bit fields, and what stands for `||`, `&&` and an `if` that gives a
 // number, with no branch in the caller.
+#![tactic(auto)]
+
 ghost use Rattle.std.specs.Prelude.{cond, ◌&&◌, ◌||◌, ◌≡◌, ◌+◌, ◌<◌, ◌≤◌, length};
 ghost use Rattle.lists.specs.Field.{word16};
 

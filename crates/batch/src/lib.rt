@@ -1,5 +1,7 @@
 // The list's faults behind the sieve, a pack at a time: up to 64 open faults, whose runs to the end stage 1 makes together, one to a lane. A fault's
 // record is written before the next one is looked at.
+#![tactic(auto)]
+
 ghost use Rattle.std.specs.Prelude.{true, ◌≡◌, ◌*◌, ◌<◌, ◌≤◌, length};
 ghost use Rattle.model.specs.Inputs.{fault_count};
 ghost use Rattle.model.specs.Accepted.{ValidInputs};

@@ -1,4 +1,6 @@
 // One text line of a bench text: 18 to 20 of it, and the record of the circuit line that it defines.
+#![tactic(auto)]
+
 ghost use Rattle.std.specs.Prelude.{true, cond, not, ◌&&◌, ◌≡◌, ℕ, ◌+◌, ◌*◌, ◌<◌, ◌≤◌, leb, ltb, get_or, length};
 ghost use Rattle.lists.specs.Scan.{any_below};
 ghost use Rattle.lists.specs.Field.{overwritten};

@@ -10,7 +10,7 @@ use native.Mathlib.Omega.{arith}
 use native.Mathlib.Decide.{dec_le}
 use Rattle.lists.specs.Scan.{any_below, count_below, select, tabulate}
 use Rattle.lists.proofs.Tests.{or_cases}
-use Rattle.lists.proofs.Scan.{count_below-less, count_below-bound, length-select, length-tabulate, get_d_tabulate}
+use Rattle.lists.proofs.Scan.{count_below-less, count_below-bound, length-select, length-tabulate, get_or_tabulate}
 
 -- ---- the numbers that pass
 module _ (P : ℕ → Bool) where
@@ -93,4 +93,4 @@ module _ {A : Type 0} (P : A → Type 0) (d : A) where
   ]
 
   pub each-tabulate : (g : ℕ → A) → ((k : ℕ) → P (g k)) → (from n : ℕ) → Each P (tabulate g from n) d
-  each-tabulate g h from n i l = rw (get_d_tabulate g from n i d (omega (arith, length-tabulate g from n))) (h (from + i))
+  each-tabulate g h from n i l = rw (get_or_tabulate g from n i d (omega (arith, length-tabulate g from n))) (h (from + i))

@@ -1,13 +1,15 @@
 // The best of the pairs that stage 5 would take next. What a pair's two extras weigh is read from a table; with the merit of its unit it gives one
 // number, its score, whose digits are the criteria, so that one comparison decides. The pairs are seen by time unit and then by flip-flop, and
 // only a larger score replaces the best so far: of pairs that are the same the first stays.
+#![tactic(auto)]
+
 ghost use Rattle.std.specs.Prelude.{◌≡◌, ◌+◌, ◌*◌, ◌<◌, ◌≤◌, length, take};
 ghost use Rattle.lists.specs.Field.{word16};
 ghost use Rattle.model.specs.Expansion.{count_x};
 ghost use Rattle.best.specs.Best.{AtMost, most_nout, most_merit, MeritsSet, Compared, Scanned, BestPicked};
 
 // The best pair so far: 1 more than its score, or 0 where there is none; its unit and flip-flop.
-#[derive(Drop)]
+#[derive(Clone, Copy)]
 pub struct Best {
     pub score: usize,
     pub unit: usize,

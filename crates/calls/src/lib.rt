@@ -1,4 +1,6 @@
 // The four calls of document 01 by number, for programs that are told which to make.
+#![tactic(auto)]
+
 use job::Outcome;
 
 // Call 1 is Simulate, 2 Grade, 3 Choose and any other Group; each takes what it takes of what is lent.

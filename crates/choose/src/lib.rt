@@ -1,4 +1,6 @@
 // The call Choose: up to k pairs for a plan. What it works in is cleared first, so the arrays have one of three lengths, by the job.
+#![tactic(auto)]
+
 ghost use Rattle.std.specs.Prelude.{true, ◌≡◌, length};
 ghost use Rattle.model.specs.Inputs.{fault_at};
 ghost use Rattle.model.specs.Accepted.{ChooseReady};

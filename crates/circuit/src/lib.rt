@@ -1,4 +1,6 @@
 // The fields of circuit and fault records, the sizes of a circuit, and the tables of its flip-flops and outputs.
+#![tactic(auto)]
+
 ghost use Rattle.std.specs.Prelude.{true, cond, ◌≡◌, ℕ, ◌+◌, ◌*◌, ◌/◌, ◌%◌, ◌<◌, ◌≤◌, eqb, leb, length, get_or, set};
 ghost use Rattle.lists.specs.Scan.{count_below, select};
 ghost use Rattle.model.specs.Inputs.{N, pin_count, pin_line, is_gate, fault_at};
@@ -6,7 +8,7 @@ ghost use Rattle.model.specs.Accepted.{ValidCircuit};
 ghost use Rattle.circuit.specs.Table.{FieldOf, SizesOf, FaultOf, Listed, byte_is_one, pin_read, pin_number, PinTable, Tables};
 
 // N, I, F and O.
-#[derive(Drop)]
+#[derive(Clone, Copy)]
 pub struct Sizes {
     pub lines: usize,
     pub inputs: usize,
@@ -15,7 +17,7 @@ pub struct Sizes {
 }
 
 // Line, pin (0 the line itself) and stuck value.
-#[derive(Drop)]
+#[derive(Clone, Copy)]
 pub struct Fault {
     pub line: usize,
     pub pin: usize,

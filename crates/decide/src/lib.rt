@@ -1,5 +1,7 @@
 // The verdict of one fault, of which stage 1 has found what there is. A fault that stage 1 leaves open is given to all lanes and goes through the
 // other stages alone.
+#![tactic(auto)]
+
 ghost use Rattle.std.specs.Prelude.{◌+◌, ◌*◌, ◌<◌, ◌≤◌, length};
 ghost use Rattle.model.specs.Inputs.{fault_at};
 ghost use Rattle.model.specs.Accepted.{ValidFault};

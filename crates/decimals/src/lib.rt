@@ -1,4 +1,6 @@
 // Numbers in decimal, appended to a print: one, one with the byte that follows it, and a line of them.
+#![tactic(auto)]
+
 ghost use Rattle.std.specs.Prelude.{[], ◌∷◌, ◌++◌, ◌+◌, ◌%◌, ◌<◌, ◌≤◌, length};
 ghost use Rattle.model.specs.Listing.{decimal, number_line};
 ghost use Rattle.decimals.specs.Put.{Put};

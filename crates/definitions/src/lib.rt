@@ -1,5 +1,7 @@
 // The circuit lines that a text defines: how many, and which of them has a name. The first 4,096 are held in tables; a name that none of these
 // has is looked for in the text lines behind them.
+#![tactic(auto)]
+
 ghost use Rattle.std.specs.Prelude.{false, ◌≡◌, ℕ, ◌+◌, ◌<◌};
 ghost use Rattle.bench_text.specs.Text.{same};
 ghost use Rattle.bench_text.specs.Bench.{named, line_named};
@@ -10,7 +12,7 @@ use lookup::HELD;
 use tokens::PARTS;
 
 // How many lines a text defines, how many of them are held, and where the text line behind the last of those begins.
-#[derive(Drop)]
+#[derive(Clone, Copy)]
 pub struct Known {
     pub lines: usize,
     pub held: usize,

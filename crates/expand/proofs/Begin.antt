@@ -1,6 +1,6 @@
 -- Where the walk begins, which pairs it tries, and that it may stop.
 use mathlib.Core.Path.{◌≡◌, refl, sym, ap, ◌∙◌}
-use mathlib.Core.Bool.{false, cond, ◌&&◌, and-false, and_true}
+use mathlib.Core.Bool.{false, cond, ◌&&◌, and-false, and-true}
 use mathlib.Core.List.{List}
 use Prim.Native.Nat.{ℕ, zero, suc, ◌+◌, ◌*◌, ◌-◌, ◌/◌, ◌%◌, ◌<◌, ◌≤◌}
 use native.Mathlib.Omega.{arith}
@@ -65,7 +65,7 @@ module _ (c t : List ℕ) (f : Fault) where
           let late : 1 ≤ e / F c = first-unit (F c) e width h in
           let early : e / F c - 1 < left = before e l width late in
           let bit : get_or states e 0 ≡ get_or (plain_state c t f (e / F c)) (e % F c) 0 = table_at (F c) (L c t) e states width room (omega (arith, l, end-most, mul_comm (F c) (L c t))) ∙ ap (λ r. get_or r (e % F c) 0) (plain.at (e / F c) unit) in
-          tried-later (e / F c) (e % F c) late ∙ rw (lt-ltb 0 (nout c t f (e / F c - 1)) (lefts.above (e / F c - 1) early)) (and_true _ ∙ known e bit);
+          tried-later (e / F c) (e % F c) late ∙ rw (lt-ltb 0 (nout c t f (e / F c - 1)) (lefts.above (e / F c - 1) early)) (and-true _ ∙ known e bit);
       before = λ e h. let zero : e / F c ≡ 0 = none e h in rw zero (tried-first (e % F c));
       behind = λ e h l.
           let width : 0 < F c = wide e l in

@@ -1,6 +1,8 @@
 // Stages 3 and 4: a walk over the pairs of a time unit and a flip-flop, a word of up to 32 pairs after another. A pair with both values marked ends
 // it; where one is marked, the other's extra is written into the state list. The first write that opposes is remembered until the walk has
 // ended, for stage 3 speaks first.
+#![tactic(auto)]
+
 ghost use Rattle.std.specs.Prelude.{true, cond, List, ◌≡◌, ℕ, ◌+◌, ◌*◌, ◌-◌, ◌/◌, ◌%◌, ◌<◌, ◌≤◌, length, get_or, set, ltb};
 ghost use Rattle.lanes.specs.Lane.{bit, Room};
 ghost use Rattle.expand.specs.Expand.{is_x, pair_at, Filled, Written, Settled, Settling, Walked, Expanded};
@@ -10,14 +12,14 @@ ghost use Rattle.run.specs.Run.{Runnable};
 use job::Job;
 
 // So many pairs fill a word; where the walk then stands.
-#[derive(Drop)]
+#[derive(Clone, Copy)]
 pub struct Batch {
     pub count: usize,
     pub next: usize,
 }
 
 // The position of the pair with both values marked, and of the first write that opposed; the end of the walk for none.
-#[derive(Drop)]
+#[derive(Clone, Copy)]
 pub struct Walk {
     pub both: usize,
     pub opposed: usize,

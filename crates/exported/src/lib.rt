@@ -1,4 +1,6 @@
 // What programs in other languages call.
+#![tactic(auto)]
+
 ghost use Rattle.std.specs.Prelude.{◌≡◌, ℕ, ◌*◌, ◌<◌, ◌≤◌, length};
 ghost use Rattle.model.specs.Inputs.{O, L, fault_count};
 ghost use Rattle.model.specs.Accepted.{ValidInputs};
@@ -15,7 +17,7 @@ use job::{Job, JobCheck, Outcome};
 
 // What a call returns, in numbers: 0, 0 and how much it did; or 1 and the row that is broken, with its position.
 #[repr(C)]
-#[derive(Drop)]
+#[derive(Clone, Copy)]
 pub struct Answered {
     pub refused: usize,
     pub rule: usize,

@@ -1,4 +1,6 @@
 // Steps of one fault's stages: its plain run, whose tables stages 2 to 5 read, and the verdict of stages 5 and 6.
+#![tactic(auto)]
+
 ghost use Rattle.std.specs.Prelude.{List, ◌≡◌, ℕ, ◌+◌, ◌*◌, ◌<◌, ◌≤◌, length};
 ghost use Rattle.lists.specs.Field.{Rows};
 ghost use Rattle.model.specs.Inputs.{N, F, O, L, output_lines, Fault};

@@ -1,6 +1,8 @@
 // The faults of the lanes, given and taken back: one fault in all lanes, or a batch of the list's faults, one to a lane.
 // A line with a fault has a row of five masks. A batch of so many faults uses at most as many rows, from row 1 on; taking it back clears these
 // and the bytes of its lines, and nothing else.
+#![tactic(auto)]
+
 ghost use Rattle.std.specs.Prelude.{◌≡◌, ℕ, ◌+◌, ◌*◌, ◌<◌, ◌≤◌, length, get_or};
 ghost use Rattle.model.specs.Inputs.{Fault};
 ghost use Rattle.lanes.specs.Lane.{lanes_at, all_x};

@@ -1,4 +1,6 @@
 // The call Generate: a pseudo-random test for a circuit, from a seed and a number of time units.
+#![tactic(auto)]
+
 ghost use Rattle.std.specs.Prelude.{◌≡◌, ◌≤◌, length};
 ghost use Rattle.lists.specs.Scan.{tabulate};
 ghost use Rattle.lists.specs.Field.{overwritten};

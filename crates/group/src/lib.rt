@@ -1,5 +1,7 @@
 // The call Group: for each verdict record the position of the first that has its verdict, time and line. A record is compared with the first
 // of each group so far, not with every record before it; and what is compared is one number, the key.
+#![tactic(auto)]
+
 ghost use Rattle.std.specs.Prelude.{◌≡◌, ◌+◌, ◌*◌, ◌<◌, ◌≤◌, length};
 ghost use Rattle.lists.specs.Field.{overwritten};
 ghost use Rattle.model.specs.Accepted.{GroupReady};

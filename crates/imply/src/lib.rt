@@ -1,5 +1,7 @@
 // Implication in one time unit, in 64 lanes: both passes over line values, each lane with a fault and a trial of its own. A lane that meets
 // a conflict keeps it, as a line with both bits set; what else such a lane holds is no matter, so no step looks for conflicts but the last.
+#![tactic(auto)]
+
 ghost use Rattle.std.specs.Prelude.{◌≡◌, List, false, cond, ℕ, ◌+◌, ◌*◌, ◌/◌, ◌<◌, ◌≤◌, length, get_or};
 ghost use Rattle.model.specs.Inputs.{pin_count, pin_line, Fault};
 ghost use Rattle.model.specs.Values.{has_conflict};

@@ -1,5 +1,7 @@
 // Rows 7 to 17 of the table of refusals, and for each call the rows that it takes, joined as the table joins them: the first that is
 // broken. A row that would use what a row above has not yet allowed is looked at only after it.
+#![tactic(auto)]
+
 ghost use Rattle.std.specs.Prelude.{List, ◌≡◌, ℕ, ◌+◌, ◌*◌, ◌<◌, ◌≤◌, length};
 ghost use Rattle.lists.specs.Scan.{◌else◌};
 ghost use Rattle.model.specs.Inputs.{N, I, fault_at};
@@ -11,14 +13,14 @@ ghost use Rattle.job.specs.Job.{answer_of, JobOf, JobChecked, Unless, Limited};
 use rules::{Check, CircuitCheck};
 
 // What a call returns: how much it did, or number and position of the row that is broken.
-#[derive(Drop)]
+#[derive(Clone, Copy)]
 pub enum Outcome {
     Done(usize),
     Refused { rule: u8, at: usize },
 }
 
 // N, I, F, O and L.
-#[derive(Drop)]
+#[derive(Clone, Copy)]
 pub struct Job {
     pub lines: usize,
     pub inputs: usize,
@@ -28,7 +30,7 @@ pub struct Job {
 }
 
 // The sizes of a job whose rows are passed, or the row that it breaks.
-#[derive(Drop)]
+#[derive(Clone, Copy)]
 pub enum JobCheck {
     Ready(Job),
     Broken { rule: u8, at: usize },

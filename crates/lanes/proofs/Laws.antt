@@ -1,6 +1,6 @@
 -- The gates in one lane, and words stored and read.
 use mathlib.Core.Path.{◌≡◌, refl, sym, ◌∙◌, ap}
-use mathlib.Core.Bool.{Bool, true, false, cond, ◌&&◌, ◌||◌, true≢false, and_true, and-false, or-false}
+use mathlib.Core.Bool.{Bool, true, false, cond, ◌&&◌, ◌||◌, true≢false, and-true, and-false, or-false}
 use mathlib.Core.List.{List, [], ◌∷◌, ◌++◌}
 use Prim.Native.Nat.{ℕ, zero, suc, ◌/◌, ◌+◌, ◌*◌, ◌%◌, ◌^◌, ◌<◌, ◌≤◌}
 use native.Mathlib.Omega.{arith}
@@ -149,8 +149,8 @@ module _ (t k : ℕ) where
   merged x y b f g =
       rw (bit-or t (bit_xor (bit_or x k) k) (bit_and y k), bit-without t x k, bit-and t y k)
       (by-test (bit t k)
-      (λ e. rw (e, and-false (bit t x)) (and_true (bit t y) ∙ g e))
-      (λ e. rw (e, and_true (bit t x), and-false (bit t y)) (or-false (bit t x) ∙ f e)))
+      (λ e. rw (e, and-false (bit t x)) (and-true (bit t y) ∙ g e))
+      (λ e. rw (e, and-true (bit t x), and-false (bit t y)) (or-false (bit t x) ∙ f e)))
 
   pub shows-merge : (z o z' o' v : ℕ) → (bit t k ≡ false → Shows t z o v) → (bit t k ≡ true → Shows t z' o' v)
       → Shows t (bit_or (bit_xor (bit_or z k) k) (bit_and z' k)) (bit_or (bit_xor (bit_or o k) k) (bit_and o' k)) v

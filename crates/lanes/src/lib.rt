@@ -1,10 +1,12 @@
 // 64 values at once, one in each lane: two 64-bit words, known 0 and known 1. X is neither, a conflict is both. Giving a value is an OR, AND is
 // an AND of the ones and an OR of the zeros, inverting swaps the words.
+#![tactic(auto)]
+
 ghost use Rattle.std.specs.Prelude.{Bool, true, false, cond, ◌&&◌, List, ◌∷◌, ◌≡◌, ℕ, ◌+◌, ◌*◌, ◌<◌, ◌≤◌, ◌/◌, ◌%◌, eqb};
 ghost use Rattle.model.specs.Values.{X, is_specified, invert, and_pair, xor_pair, or_of, even_gate, invert_if, inverts, opposes};
 ghost use Rattle.lanes.specs.Lane.{bit, Holds, Conflict, lanes_at, stored, Room, turned_if, Given};
 
-#[derive(Drop)]
+#[derive(Clone, Copy)]
 pub struct Lanes {
     pub zeros: u64,
     pub ones: u64,

@@ -9,7 +9,7 @@ use lib.Seq.{ext_get_or, get_or-set_same, get_or-set_other}
 use borrow.Author.Tests.{eq-eqb, ne_eqb}
 use Rattle.lists.specs.Scan.{count_below, tabulate}
 use Rattle.lists.proofs.Tests.{by-eq}
-use Rattle.lists.proofs.Scan.{length-tabulate, get_d_tabulate, count_below-bound, count_below-turn}
+use Rattle.lists.proofs.Scan.{length-tabulate, get_or_tabulate, count_below-bound, count_below-turn}
 use Rattle.model.specs.Grade.{record_at}
 use Rattle.model.specs.Listing.{number_line, with_verdict, seven_counts}
 use Rattle.decimals.specs.Put.{Below}
@@ -34,7 +34,7 @@ module _ (records : List ℕ) where
 
   count_at : (n v : ℕ) → v < 256 → get_or (counts_of n) v 0 ≡ among n v
   unfolding counts_of
-  count_at n v h = let here : 0 + v ≡ v = omega arith in get_d_tabulate (among n) 0 256 v 0 h ∙ ap (among n) here
+  count_at n v h = let here : 0 + v ≡ v = omega arith in get_or_tabulate (among n) 0 256 v 0 h ∙ ap (among n) here
 
   module _ (n v : ℕ) (counts : List ℕ) (same : counts ≡ counts_of n) (h : v < 256) where
     pub count_low : get_or counts v 0 ≤ n

@@ -1,5 +1,7 @@
 // What the program prints, from what it has read of its four files: `too long` and a name, `refused` and two numbers, or a line for each fault and
 // the total.
+#![tactic(auto)]
+
 ghost use Rattle.std.specs.Prelude.{◌≡◌, ◌+◌, ◌*◌, ◌≤◌, length, take};
 ghost use Rattle.std.proofs.Math.Option.{none};
 ghost use Rattle.lists.specs.Scan.{tabulate};
@@ -14,7 +16,7 @@ use job::Outcome;
 pub type Area = [u8; 65536];
 
 // Which files have bytes behind those that were read.
-#[derive(Drop)]
+#[derive(Clone, Copy)]
 pub struct Longer {
     pub circuit: bool,
     pub test: bool,

@@ -311,12 +311,12 @@ unfolding tabulate
 length-tabulate g from zero = refl
 length-tabulate g from (suc n) = ap suc (length-tabulate g (suc from) n)
 
-pub get_d_tabulate : {A : Type 0} (g : ℕ → A) (from n j : ℕ) (d : A) → j < n → get_or (tabulate g from n) j d ≡ g (from + j)
+pub get_or_tabulate : {A : Type 0} (g : ℕ → A) (from n j : ℕ) (d : A) → j < n → get_or (tabulate g from n) j d ≡ g (from + j)
 unfolding tabulate
-get_d_tabulate g from zero j d h = absurd (let z : ⊥ = omega arith in z)
-get_d_tabulate g from (suc n) zero d h = ap g (let e : from ≡ from + 0 = omega arith in e)
-get_d_tabulate g from (suc n) (suc j) d h =
-    get_d_tabulate g (suc from) n j d (omega arith) ∙ ap g (let e : suc from + j ≡ from + suc j = omega arith in e)
+get_or_tabulate g from zero j d h = absurd (let z : ⊥ = omega arith in z)
+get_or_tabulate g from (suc n) zero d h = ap g (let e : from ≡ from + 0 = omega arith in e)
+get_or_tabulate g from (suc n) (suc j) d h =
+    get_or_tabulate g (suc from) n j d (omega arith) ∙ ap g (let e : suc from + j ≡ from + suc j = omega arith in e)
 
 pub tabulate-same : {A : Type 0} (g h : ℕ → A) (from n : ℕ) → ((j : ℕ) → from ≤ j → j < from + n → g j ≡ h j) → tabulate g from n ≡ tabulate h from n
 unfolding tabulate
@@ -390,10 +390,10 @@ unfolding gather
 gather-turn g n = rw add-one
 
 -- within the list the default does not matter
-pub get_d_any : (l : List ℕ) (i d e : ℕ) → i < length l → get_or l i d ≡ get_or l i e
-get_d_any [] i d e h = absurd (let z : ⊥ = omega arith in z)
-get_d_any (x ∷ l) zero d e h = refl
-get_d_any (x ∷ l) (suc i) d e h = get_d_any l i d e (omega arith)
+pub get_or_any : (l : List ℕ) (i d e : ℕ) → i < length l → get_or l i d ≡ get_or l i e
+get_or_any [] i d e h = absurd (let z : ⊥ = omega arith in z)
+get_or_any (x ∷ l) zero d e h = refl
+get_or_any (x ∷ l) (suc i) d e h = get_or_any l i d e (omega arith)
 
 pub map-take : (g : ℕ → ℕ) (xs : List ℕ) (n : ℕ) → n < length xs → map g (take (n + 1) xs) ≡ map g (take n xs) ++ (g (get_or xs n 0) ∷ [])
 map-take g [] n h = absurd (let z : ⊥ = omega arith in z)

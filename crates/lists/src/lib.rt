@@ -1,1 +1,3 @@
 // Lists and scans, in specs/ and proofs/; no code.
+
+#![tactic(auto)]

@@ -1,6 +1,8 @@
 // The names of a text's circuit lines in two tables that the caller lends, zero at first, so that a name is found without a walk over the text.
 // Lines whose names have one hash are chained, from the highest down: `heads` tells the first line of each chain, and a row of `names` tells
 // where a line's name begins, its size and the next line of its chain.
+#![tactic(auto)]
+
 ghost use Rattle.std.specs.Prelude.{cond, ◌≡◌, ◌+◌, ◌≤◌, ◌<◌, length};
 ghost use Rattle.std.proofs.Math.Option.{get_or};
 ghost use Rattle.lists.specs.Scan.{first};

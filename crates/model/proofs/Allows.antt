@@ -84,13 +84,13 @@ invert_all_allows [] (y ∷ ys) h = absurd h
 invert_all_allows (x ∷ xs) [] h = absurd h
 invert_all_allows (x ∷ xs) (y ∷ ys) h = (invert_allows x y h.0, invert_all_allows xs ys h.1)
 
-pub get_d_allows : (xs ys : List ℕ) (n : ℕ) → AllowsRow xs ys → Allows (get_or xs n X) (get_or ys n X)
+pub get_or_allows : (xs ys : List ℕ) (n : ℕ) → AllowsRow xs ys → Allows (get_or xs n X) (get_or ys n X)
 unfolding Allows AllowsRow
-get_d_allows [] [] n h = tt
-get_d_allows [] (y ∷ ys) n h = absurd h
-get_d_allows (x ∷ xs) [] n h = absurd h
-get_d_allows (x ∷ xs) (y ∷ ys) zero h = h.0
-get_d_allows (x ∷ xs) (y ∷ ys) (suc n) h = get_d_allows xs ys n h.1
+get_or_allows [] [] n h = tt
+get_or_allows [] (y ∷ ys) n h = absurd h
+get_or_allows (x ∷ xs) [] n h = absurd h
+get_or_allows (x ∷ xs) (y ∷ ys) zero h = h.0
+get_or_allows (x ∷ xs) (y ∷ ys) (suc n) h = get_or_allows xs ys n h.1
 
 or_of_allows : (xs ys : List ℕ) → AllowsRow xs ys → Allows (or_of xs) (or_of ys)
 unfolding or_of
@@ -99,7 +99,7 @@ or_of_allows xs ys h = invert_allows _ _ (and_of_allows _ _ (invert_all_allows x
 even_gate_allows : (half : ℕ) (xs ys : List ℕ) → AllowsRow xs ys → Allows (even_gate half xs) (even_gate half ys)
 unfolding even_gate
 even_gate_allows zero xs ys h = X_allows _
-even_gate_allows (suc zero) xs ys h = get_d_allows xs ys 0 h
+even_gate_allows (suc zero) xs ys h = get_or_allows xs ys 0 h
 even_gate_allows (suc (suc zero)) xs ys h = and_of_allows xs ys h
 even_gate_allows (suc (suc (suc zero))) xs ys h = or_of_allows xs ys h
 even_gate_allows (suc (suc (suc (suc zero)))) xs ys h = xor_of_allows xs ys h
@@ -147,7 +147,7 @@ cond_allows false a b x y h k = k
 -- ---- one unit, with a fault whose value is specified
 pub outputs_allows : (c : List ℕ) (f : Fault) (xs ys : List ℕ) → AllowsRow xs ys → AllowsRow (outputs c f xs) (outputs c f ys)
 unfolding outputs shown
-outputs_allows c f xs ys h = map_allows _ _ (output_lines c) (λ n. get_d_allows xs ys n h)
+outputs_allows c f xs ys h = map_allows _ _ (output_lines c) (λ n. get_or_allows xs ys n h)
 
 module _ (c : List ℕ) (f : Fault) (stuck : Allows f.value f.value) where
   seen_allows : (n pin a b : ℕ) → Allows a b → Allows (seen f n pin a) (seen f n pin b)
@@ -156,7 +156,7 @@ module _ (c : List ℕ) (f : Fault) (stuck : Allows f.value f.value) where
 
   pin_seen_allows : (xs ys : List ℕ) (n pin : ℕ) → AllowsRow xs ys → Allows (pin_seen c f xs n pin) (pin_seen c f ys n pin)
   unfolding pin_seen
-  pin_seen_allows xs ys n pin h = seen_allows n pin _ _ (get_d_allows xs ys (pin_line c n pin) h)
+  pin_seen_allows xs ys n pin h = seen_allows n pin _ _ (get_or_allows xs ys (pin_line c n pin) h)
 
   pub pins_seen_allows : (xs ys : List ℕ) (n : ℕ) → AllowsRow xs ys → AllowsRow (pins_seen c f xs n) (pins_seen c f ys n)
   unfolding pins_seen
@@ -170,8 +170,8 @@ module _ (c : List ℕ) (f : Fault) (stuck : Allows f.value f.value) where
     behind_allows : (xs ys : List ℕ) (n : ℕ) → AllowsRow xs ys → Allows (behind c f inputs s xs n) (behind c f inputs z ys n)
     unfolding behind
     behind_allows xs ys n h =
-        cond_allows (is_input c n) _ _ _ _ (get_d_allows inputs inputs _ given)
-        (cond_allows (is_flip_flop c n) _ _ _ _ (get_d_allows s z _ state) (gate_allows (kind c n) _ _ (pins_seen_allows xs ys n h)))
+        cond_allows (is_input c n) _ _ _ _ (get_or_allows inputs inputs _ given)
+        (cond_allows (is_flip_flop c n) _ _ _ _ (get_or_allows s z _ state) (gate_allows (kind c n) _ _ (pins_seen_allows xs ys n h)))
 
     values_below_allows : (n : ℕ) → AllowsRow (values_below c f inputs s n) (values_below c f inputs z n)
     unfolding values_below

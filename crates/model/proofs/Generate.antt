@@ -9,7 +9,7 @@ use native.Mathlib.Omega.{arith}
 use native.Mathlib.Decide.{dec_le}
 use native.Mathlib.Nat.{mul-div_cancel, mul-mod_left, mul-le-mul}
 use borrow.Author.Tests.{eq-eqb, ne_eqb, le-ltb}
-use Rattle.lists.proofs.Scan.{first_answer-passed, length-tabulate, get_d_tabulate}
+use Rattle.lists.proofs.Scan.{first_answer-passed, length-tabulate, get_or_tabulate}
 use Rattle.model.specs.Inputs.{I, L}
 use Rattle.model.specs.Refusals.{refuse, row7, row8, done, generate_refusal}
 use Rattle.model.specs.Generate.{step, stepped, generate_byte, generate_bytes, generate_answer}
@@ -24,7 +24,7 @@ module _ (c : List ℕ) (seed units : ℕ) where
 
   low : (b : ℕ) → b < units * I c → get_or (generate_bytes c seed units) b 0 ≤ 1
   unfolding generate_bytes generate_byte
-  low b h = rw (get_d_tabulate (λ b. generate_byte seed b) 0 (units * I c) b 0 h) (omega arith)
+  low b h = rw (get_or_tabulate (λ b. generate_byte seed b) 0 (units * I c) b 0 h) (omega arith)
 
   whole : 0 < I c → L c (generate_bytes c seed units) ≡ units
   unfolding L

@@ -9,12 +9,12 @@ use lib.Dec.{leb}
 use native.Mathlib.Omega.{arith}
 use borrow.Author.Tests.{leb-true, not-true}
 use Rattle.lists.proofs.Tests.{and_left, and_right, or_cases, cond_cases}
-use Rattle.lists.proofs.Scan.{length-tabulate, get_d_tabulate}
+use Rattle.lists.proofs.Scan.{length-tabulate, get_or_tabulate}
 use Rattle.model.specs.Inputs.{N, kind, pin_count, pin_line, is_gate, Fault}
 use Rattle.model.specs.Values.{X, gate, give, has_conflict, opposes, some_oppose}
 use Rattle.model.specs.Simulation.{is_stuck, seen, pin_seen, pins_seen}
 use Rattle.model.specs.Implication.{implies, give_line, give_pins, down_line, down, up_line, up, implied}
-use Rattle.model.proofs.Allows.{Allows, AllowsRow, gate_allows, pins_seen_allows, get_d_allows}
+use Rattle.model.proofs.Allows.{Allows, AllowsRow, gate_allows, pins_seen_allows, get_or_allows}
 use Rattle.model.proofs.Total.{TotalRow, implies_allows, specified_allows}
 
 pub give_allows : (a x y : ℕ) → Allows a y → Allows x y → Allows (give a x) y
@@ -48,12 +48,12 @@ unfolding seen
 unstuck f n pin v e = rw e
 
 -- a pin that is not stuck sees its line
-get_d_pins_seen : (c : List ℕ) (f : Fault) (w : List ℕ) (n j : ℕ) → j < pin_count c n → is_stuck f n (suc j) ≡ false
+get_or-pins_seen : (c : List ℕ) (f : Fault) (w : List ℕ) (n j : ℕ) → j < pin_count c n → is_stuck f n (suc j) ≡ false
     → get_or (pins_seen c f w n) j X ≡ get_or w (pin_line c n (suc j)) X
 unfolding pins_seen pin_seen
-get_d_pins_seen c f w n j h e =
+get_or-pins_seen c f w n j h e =
     let one : 1 + j ≡ suc j = omega arith in
-    get_d_tabulate (λ pin. pin_seen c f w n pin) 1 (pin_count c n) j X h
+    get_or_tabulate (λ pin. pin_seen c f w n pin) 1 (pin_count c n) j X h
     ∙ ap (λ (pin : ℕ). pin_seen c f w n pin) one
     ∙ unstuck f n (suc j) _ e
 
@@ -88,11 +88,11 @@ module _ (c : List ℕ) (f : Fault) (stuck : Allows f.value f.value) (w : List �
       let both : is_gate c n && not (is_stuck f n 0) ≡ true = and_left _ _ e in
       let g : is_gate c n ≡ true = and_left _ _ both in
       let free : is_stuck f n 0 ≡ false = not-true _ (and_right (is_gate c n) _ both) in
-      let v : get_or w n X ≡ get_or vs n X = specified_allows _ _ (get_d_allows vs w n h) (and_right (is_gate c n && not (is_stuck f n 0)) _ e) in
+      let v : get_or w n X ≡ get_or vs n X = specified_allows _ _ (get_or_allows vs w n h) (and_right (is_gate c n && not (is_stuck f n 0)) _ e) in
       give_pins_allows n (get_or vs n X) (pins_seen c f vs n) 0 (pin_count c n) vs h
       (λ j q t.
       let q' : j < pin_count c n = omega arith in
-      rw (get_d_pins_seen c f w n j q' t) at
+      rw (get_or-pins_seen c f w n j q' t) at
       (implies_allows (pins_seen c f vs n) (pins_seen c f w n) (pins_seen_allows c f stuck vs w n h) (settled.total n b g)
       (kind c n) (get_or vs n X) j (gate-kind c n g) (settled.kinds n b) (omega (arith, length-pins_seen c f w n))
       (sym (settled.shows n b g free) ∙ v))))

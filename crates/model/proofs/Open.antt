@@ -9,7 +9,7 @@ use lib.Dec.{eqb}
 use native.Mathlib.Omega.{arith}
 use borrow.Author.Tests.{eqb-true, leb-true, leb-false, le-leb}
 use Rattle.lists.proofs.Tests.{and_left, cond_cases, clash, is_false}
-use Rattle.lists.proofs.Scan.{get_d_any}
+use Rattle.lists.proofs.Scan.{get_or_any}
 use Rattle.model.specs.Inputs.{pin_line, flip_flops, flip_flop_line, F, Fault}
 use Rattle.model.specs.Accepted.{ValidTest, ValidFault}
 use Rattle.model.specs.Values.{X, is_specified, give, give_row}
@@ -98,7 +98,7 @@ module _ (c t : List ℕ) (f : Fault) (test : ValidTest c t) (fault : ValidFault
       let state = state_at-three c f bit t (power_up c) u test.bytes (power_up-three c) in
       let three = line_values-three c f bit _ _ (inputs-three c t u test.bytes) state in
       let pin : get_or (plain_state c t f (suc u)) i X ≡ pin_seen c f vs n 1 =
-      get_d_any (plain_state c t f (suc u)) i X _ (omega (arith, length-later u)) ∙ get_or-map (λ n. pin_seen c f vs n 1) (flip_flops c) i 0 in
+      get_or_any (plain_state c t f (suc u)) i X _ (omega (arith, length-later u)) ∙ get_or-map (λ n. pin_seen c f vs n 1) (flip_flops c) i 0 in
       let low : is_specified (get_or vs (pin_line c n 1) X) ≡ false = seen-through (is_stuck f n 1) f.value (get_or vs (pin_line c n 1) X) fault.value (rw pin at e) in
       omega (arith, three.at (pin_line c n 1), leb-false (get_or vs (pin_line c n 1) X) 1 low)
 
@@ -107,7 +107,7 @@ module _ (c t : List ℕ) (f : Fault) (test : ValidTest c t) (fault : ValidFault
   pins_open = record {
     when_tried = λ u i h e.
         let unknown : get_or (plain_state c t f (suc u)) i 0 ≡ X = eqb-true _ _ (and_left _ _ e) in
-        line_open u i h (rw (get_d_any (plain_state c t f (suc u)) i X 0 (omega (arith, length-later u)) ∙ unknown));
+        line_open u i h (rw (get_or_any (plain_state c t f (suc u)) i X 0 (omega (arith, length-later u)) ∙ unknown));
     when_taken = λ pairs u i e.
         let q : Takeable c t f pairs (suc u) i = takeable c t f pairs (suc u) i e in
         line_open u i q.bit (is_false _ (λ s. clash (is_specified (get_or (state_row c t f (suc u)) i X)) (rw (state_row-keeps c t f (suc u) i (leb-true _ 1 s)) s) q.unspecified));

@@ -17,7 +17,7 @@ use Rattle.model.specs.Accepted.{ValidCircuit, ValidTest, ValidFault}
 use Rattle.model.specs.Values.{X, is_specified}
 use Rattle.model.specs.Simulation.{shown, outputs, power_up, plain_outputs, outputs_at, free_outputs}
 use Rattle.model.specs.Expansion.{count_open, nsv, open_places, nout, both_open}
-use Rattle.model.proofs.Total.{TotalRow, nil-total, total-bit, get_d_total}
+use Rattle.model.proofs.Total.{TotalRow, nil-total, total-bit, get_or_total}
 use Rattle.model.proofs.Runs.{map-total}
 use Rattle.model.proofs.Sound.{FaultJob, values-total, nout-zero, nsv-start}
 use Rattle.model.proofs.Accepted.{valid_job}
@@ -56,7 +56,7 @@ module _ (c t : List ℕ) (f : Fault) where
         let whole : TotalRow (power_up c) = rw e nil-total in
         let values = values-total c t f job (power_up c) whole (length-replicate (F c) X) u h in
         map-total _ (λ n. (n < N c) × (is_output c n ≡ true)) _ (select-all (λ n. is_output c n) (N c) (N c) (omega arith))
-        (λ n q. get_d_total _ n values.0 (omega (arith, values.1)))
+        (λ n q. get_or_total _ n values.0 (omega (arith, values.1)))
 
     some-flip-flop : 0 < nout c t f 0 → 0 < F c
     some-flip-flop h = elim (dec_le 1 (F c)) [

@@ -15,7 +15,7 @@ use Rattle.model.specs.Inputs.{N, kind, pin_count, pin_line, is_input, is_flip_f
 use Rattle.model.specs.Accepted.{ValidCircuit}
 use Rattle.model.specs.Values.{X, gate}
 use Rattle.model.specs.Simulation.{is_stuck, seen, pin_seen, pins_seen, behind, values_below, line_values, next_state}
-use Rattle.model.proofs.Total.{Total, TotalRow, nil-total, cons-total, append-total, tabulate-total, get_d_total, gate-total}
+use Rattle.model.proofs.Total.{Total, TotalRow, nil-total, cons-total, append-total, tabulate-total, get_or_total, gate-total}
 use Rattle.model.proofs.Implication.{Settled, unstuck, length-pins_seen, gate-kind}
 
 -- a line that is neither input nor flip-flop is a gate
@@ -90,7 +90,7 @@ module _ (c : List ℕ) (valid : ValidCircuit c) (f : Fault) (stuck : Total f.va
 
   pin_seen-total : (vs : List ℕ) (n pin : ℕ) → TotalRow vs → pin_line c n pin < length vs → Total (pin_seen c f vs n pin)
   unfolding pin_seen
-  pin_seen-total vs n pin h g = seen-total n pin _ (get_d_total vs (pin_line c n pin) h g)
+  pin_seen-total vs n pin h g = seen-total n pin _ (get_or_total vs (pin_line c n pin) h g)
 
   pins_seen-total : (vs : List ℕ) (n : ℕ) → n < N c → n ≤ length vs → is_gate c n ≡ true → TotalRow vs → TotalRow (pins_seen c f vs n)
   unfolding pins_seen
@@ -106,9 +106,9 @@ module _ (c : List ℕ) (valid : ValidCircuit c) (f : Fault) (stuck : Total f.va
     unfolding behind I F
     behind-total vs n b h l =
         cond_cases Total _ _ _
-        (λ e. get_d_total inputs _ given (omega (arith, count_below-less (λ m. is_input c m) n (N c) b e)))
+        (λ e. get_or_total inputs _ given (omega (arith, count_below-less (λ m. is_input c m) n (N c) b e)))
         (λ a. cond_cases Total _ _ _
-        (λ e. get_d_total state _ bits (omega (arith, count_below-less (λ m. is_flip_flop c m) n (N c) b e)))
+        (λ e. get_or_total state _ bits (omega (arith, count_below-less (λ m. is_flip_flop c m) n (N c) b e)))
         (λ d.
         let g : is_gate c n ≡ true = gate-left c n a d in
         gate-total (kind c n) (pins_seen c f vs n) (gate-kind c n g) (valid.kinds n b)

@@ -23,7 +23,7 @@ use Rattle.model.specs.Grade.{opposed_at}
 use Rattle.lists.proofs.Tests.{and_left, and_right, and-fails, or_cases, cond_cases, clash, is_false, is_true}
 use Rattle.lists.proofs.Scan.{any_below-false, any_below-none, count_below-positive}
 use Rattle.model.proofs.Allows.{Allows, AllowsRow, outputs_allows, next_state_allows, line_values_allows, state_at_allows, values_at_allows, outputs_at_allows}
-use Rattle.model.proofs.Total.{Total, TotalRow, take-total, drop-total, total_allows, total_row_allows, total-bit, total-cases, get_d_total, allows_equal}
+use Rattle.model.proofs.Total.{Total, TotalRow, take-total, drop-total, total_allows, total_row_allows, total-bit, total-cases, get_or_total, allows_equal}
 use Rattle.model.proofs.Implication.{Settled, implied_allows, no-conflict, some_oppose_allows}
 use Rattle.model.proofs.Runs.{flip_flop_line-holds, length-next_state, length-line_values, line_values-total, next_state-total, settled}
 use Rattle.model.proofs.Pairs.{taken-all}
@@ -127,11 +127,11 @@ module _ (c t : List ℕ) (f : Fault) (a : FaultJob c t f) where
 
     bit-of-total : (u i : ℕ) → u < L c t → i < F c → Total (bit_of u i)
     unfolding bit_of
-    bit-of-total zero i h k = get_d_total st i whole (omega arith)
+    bit-of-total zero i h k = get_or_total st i whole (omega arith)
     bit-of-total (suc u) i h k =
         let n = flip_flop_line-holds c i k in
         let v : TotalRow (values_at c t f st u) × (length (values_at c t f st u) ≡ N c) = values-total u (omega arith) in
-        get_d_total _ _ v.0 (omega (arith, a.circuit.fed (flip_flop_line c i) n.0 n.1))
+        get_or_total _ _ v.0 (omega (arith, a.circuit.fed (flip_flop_line c i) n.0 n.1))
 
     implied_at_allows : (u i α : ℕ) → u < L c t → Allows α (bit_of (suc u) i) → AllowsRow (implied_at c t f u i α) (values_at c t f st u)
     unfolding implied_at bit_of

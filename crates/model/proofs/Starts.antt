@@ -8,7 +8,7 @@ use Rattle.model.specs.Inputs.{F}
 use Rattle.model.specs.Values.{X}
 use Rattle.model.specs.Starts.{bits, free_bits, starting_state, start_count}
 use Rattle.model.specs.Promises.{EveryStart}
-use Rattle.model.proofs.Total.{total-bit, get_d_total}
+use Rattle.model.proofs.Total.{total-bit, get_or_total}
 use Rattle.model.proofs.Rows.{length-bits, bits-total}
 
 number : List ℕ → ℕ
@@ -45,7 +45,7 @@ unfolding start_count free_bits starting_state Bits
 every-start c = record {
   settings = λ s _. record {
     size = length-bits (F c) s;
-    low = λ i k. (let z : get_or (bits (F c) s) i X < 2 = total-bit _ (get_d_total _ i (bits-total (F c) s) k) in omega arith);
+    low = λ i k. (let z : get_or (bits (F c) s) i X < 2 = total-bit _ (get_or_total _ i (bits-total (F c) s) k) in omega arith);
   };
   every = λ st h. (number st, rw (← h.size) (number-less st h.low), rw (← h.size) (bits-number st h.low));
   once = λ s r h k e. sym (number-bits (F c) s h) ∙ ap number e ∙ number-bits (F c) r k;

@@ -17,7 +17,7 @@ use Rattle.model.specs.Simulation.{no_fault, is_stuck}
 use Rattle.model.specs.Grade.{grade, record_bytes, record_at, grade_bytes, grade_area}
 use Rattle.lists.specs.Scan.{count_below, sum}
 use Rattle.lists.specs.Field.{overwritten}
-use Rattle.lists.proofs.Scan.{count_below-same, length-select, length-tabulate, get_d_tabulate, tabulate-same}
+use Rattle.lists.proofs.Scan.{count_below-same, length-select, length-tabulate, get_or_tabulate, tabulate-same}
 use Rattle.lists.proofs.Counts.{counts-sum}
 use Rattle.model.specs.Listing.{too_long, graded_lines, with_verdict, seven_counts, total_line, job_lines, printed}
 use Rattle.model.specs.Choose.{chosen, plan_bytes, choose_answer, choose_area}
@@ -70,7 +70,7 @@ module _ (c t fs p : List ℕ) (k work result : ℕ) (e : grade_refusal c t fs p
         seven = length-tabulate _ 1 7;
         each = λ v low high.
             let here : 1 + (v - 1) ≡ v = omega arith in
-            get_d_tabulate (λ v. with_verdict (grade_bytes c t fs p k) v) 1 7 (v - 1) 0 (omega arith)
+            get_or_tabulate (λ v. with_verdict (grade_bytes c t fs p k) v) 1 7 (v - 1) 0 (omega arith)
             ∙ ap (with_verdict (grade_bytes c t fs p k)) here ∙ verdict-count v ∙ sym (length-select (λ j. eqb (verdict_of j) v) (fault_count fs));
         all = ap sum (tabulate-same _ _ 1 7 (λ v _ _. verdict-count v)) ∙ counts-sum verdict_of 1 7 (fault_count fs)
             (λ j _. let b = verdict-bounds c t fs p k work result e (fault_at fs j) in (b.low, omega (arith, b.high)));

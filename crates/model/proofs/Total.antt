@@ -81,11 +81,11 @@ unfolding tabulate TotalRow
 tabulate-total g from zero h = tt
 tabulate-total g from (suc n) h = (h from (omega arith) (omega arith), tabulate-total g (suc from) n (λ j p q. h j (omega arith) (omega arith)))
 
-pub get_d_total : (xs : List ℕ) (i : ℕ) → TotalRow xs → i < length xs → Total (get_or xs i X)
+pub get_or_total : (xs : List ℕ) (i : ℕ) → TotalRow xs → i < length xs → Total (get_or xs i X)
 unfolding TotalRow
-get_d_total [] i h k = absurd (let z : ⊥ = omega arith in z)
-get_d_total (x ∷ xs) zero h k = h.0
-get_d_total (x ∷ xs) (suc i) h k = get_d_total xs i h.1 (omega arith)
+get_or_total [] i h k = absurd (let z : ⊥ = omega arith in z)
+get_or_total (x ∷ xs) zero h k = h.0
+get_or_total (x ∷ xs) (suc i) h k = get_or_total xs i h.1 (omega arith)
 
 -- ---- gates
 invert-total : (a : ℕ) → Total a → Total (invert a)
@@ -134,7 +134,7 @@ or_of-total xs h = invert-total _ (and_of-total _ (invert_all-total xs h))
 even_gate-total : (half : ℕ) (xs : List ℕ) → 0 < half → half < 5 → 0 < length xs → TotalRow xs → Total (even_gate half xs)
 unfolding even_gate
 even_gate-total zero xs a b p h = absurd (let z : ⊥ = omega arith in z)
-even_gate-total (suc zero) xs a b p h = get_d_total xs 0 h p
+even_gate-total (suc zero) xs a b p h = get_or_total xs 0 h p
 even_gate-total (suc (suc zero)) xs a b p h = and_of-total xs h
 even_gate-total (suc (suc (suc zero))) xs a b p h = or_of-total xs h
 even_gate-total (suc (suc (suc (suc zero)))) xs a b p h = xor_of-total xs h
@@ -171,11 +171,11 @@ invert-back zero h = refl
 invert-back (suc zero) h = refl
 invert-back (suc (suc a)) h = absurd h
 
-get_d_inverted : (xs : List ℕ) (i : ℕ) → TotalRow xs → invert (get_or (invert_all xs) i X) ≡ get_or xs i X
+get_or_inverted : (xs : List ℕ) (i : ℕ) → TotalRow xs → invert (get_or (invert_all xs) i X) ≡ get_or xs i X
 unfolding TotalRow invert_all invert
-get_d_inverted [] i h = refl
-get_d_inverted (x ∷ xs) zero h = invert-back x h.0
-get_d_inverted (x ∷ xs) (suc i) h = get_d_inverted xs i h.1
+get_or_inverted [] i h = refl
+get_or_inverted (x ∷ xs) zero h = invert-back x h.0
+get_or_inverted (x ∷ xs) (suc i) h = get_or_inverted xs i h.1
 
 length-invert_all : (xs : List ℕ) → length (invert_all xs) ≡ length xs
 unfolding invert_all
@@ -294,13 +294,13 @@ module _ (ps pw : List ℕ) (known : AllowsRow ps pw) (total : TotalRow pw) wher
   even_implies_allows : (half v i : ℕ) → i < length pw → even_gate half pw ≡ v → Allows (even_implies half v ps i) (get_or pw i X)
   unfolding even_implies even_gate or_of
   even_implies_allows zero v i p e = X_allows _
-  even_implies_allows (suc zero) v zero p e = rw (← e) (total_allows _ (get_d_total pw 0 total p))
+  even_implies_allows (suc zero) v zero p e = rw (← e) (total_allows _ (get_or_total pw 0 total p))
   even_implies_allows (suc zero) v (suc i) p e = X_allows _
   even_implies_allows (suc (suc zero)) v i p e = and_implies_allows ps pw known total i p v e
   even_implies_allows (suc (suc (suc zero))) v i p e =
       let dual : and_of (invert_all pw) ≡ invert v = sym (invert-back _ (and_of-total _ (invert_all-total pw total))) ∙ ap invert e in
       let q : i < length (invert_all pw) = omega (arith, length-invert_all pw) in
-      rw (get_d_inverted pw i total) at
+      rw (get_or_inverted pw i total) at
       (invert_allows _ _
       (and_implies_allows (invert_all ps) (invert_all pw) (invert_all_allows ps pw known) (invert_all-total pw total) i q (invert v) dual))
   even_implies_allows (suc (suc (suc (suc zero)))) v i p e = xor_implies_allows ps pw known total i p v e

@@ -1,4 +1,6 @@
 // Parts of texts: whether two have the same bytes, and a number for each, by which a table finds it.
+#![tactic(auto)]
+
 ghost use Rattle.std.specs.Prelude.{◌≡◌, ◌<◌};
 ghost use Rattle.bench_text.specs.Text.{same};
 ghost use Rattle.parts.specs.Hash.{hash_of};

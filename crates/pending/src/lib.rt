@@ -1,12 +1,14 @@
 // Nout of every time unit: the places, at the unit or later, where the fault-free output is specified and the faulty one X. One pass from
 // the last unit to the first, which compares the two rows of each unit once.
+#![tactic(auto)]
+
 ghost use Rattle.std.specs.Prelude.{◌≡◌, ℕ, ◌*◌, ◌<◌, ◌≤◌, List, length, get_or};
 ghost use Rattle.model.specs.Inputs.{L, Fault};
 ghost use Rattle.model.specs.Expansion.{count_open, nout};
 ghost use Rattle.pending.specs.Pending.{Responses, Outstanding, OpenUnits};
 
 // How many places of two rows were compared, and how many of them are open: specified in the first and X in the second.
-#[derive(Drop)]
+#[derive(Clone, Copy)]
 struct Comparison {
     places: usize,
     open_places: usize,

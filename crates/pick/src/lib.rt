@@ -1,5 +1,7 @@
 // Picking pairs for Choose, one after another, each the best of those that stage 5 would take next. Before the first pick all pairs are weighed, and
 // before another those that the pick before it may touch.
+#![tactic(auto)]
+
 ghost use Rattle.std.specs.Prelude.{◌≡◌, ◌+◌, ◌*◌, ◌<◌, ◌≤◌, length};
 ghost use Rattle.model.specs.Inputs.{F, L};
 ghost use Rattle.best.specs.Best.{AtMost, most_nout, most_merit};
@@ -20,7 +22,7 @@ fn reached(units: usize, left: usize) -> usize
 }
 
 // Positions of the table, from one to another.
-#[derive(Drop)]
+#[derive(Clone, Copy)]
 pub struct Span {
     pub from: usize,
     pub to: usize,

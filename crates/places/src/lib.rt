@@ -1,5 +1,7 @@
 // Stage 1 of Grade: for a batch of faults, up to 64, one to a lane, with the fault-free responses that it looks at; and for one fault, beside the
 // fault-free run.
+#![tactic(auto)]
+
 ghost use Rattle.std.specs.Prelude.{◌+◌, ◌*◌, ◌≤◌, length};
 ghost use Rattle.model.specs.Inputs.{F, O, L, fault_at};
 ghost use Rattle.faults.specs.Given.{Blank};

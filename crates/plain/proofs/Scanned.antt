@@ -15,7 +15,7 @@ use borrow.Author.Tests.{lt-ltb}
 use Rattle.lists.specs.Scan.{◌else◌, first_pair, first_answer, any_below}
 use Rattle.lists.specs.Field.{row_of, Rows}
 use Rattle.lists.proofs.Tests.{clash}
-use Rattle.lists.proofs.Scan.{get_d_any}
+use Rattle.lists.proofs.Scan.{get_or_any}
 use Rattle.lists.proofs.Nested.{scan_to, scan-none, scan-turn, scan-row, scan-stop, scan-all, first_answer-same, first_pair-select}
 use Rattle.lists.proofs.Field.{byte-of-part, length-row}
 use Rattle.model.specs.Inputs.{N, O, L, is_output, output_lines, inputs_at, Fault}
@@ -45,7 +45,7 @@ unfolding answer_at row_of shown free_values free_outputs plain_values plain_out
 answer-listed c t free f u o row h =
     let vs = values_at c t no_fault (power_up c) u in
     let fault-free : get_or vs (get_or (output_lines c) o 0) X ≡ get_or free (O c * u + o) 0 =
-    shown-at c no_fault vs o h ∙ get_d_any (outputs c no_fault vs) o X 0 (rw (length-outputs c no_fault vs) h) ∙ ap (λ x. get_or x o 0) (sym row) ∙ sym (byte-of-part free (O c * u) (O c) o h) in
+    shown-at c no_fault vs o h ∙ get_or_any (outputs c no_fault vs) o X 0 (rw (length-outputs c no_fault vs) h) ∙ ap (λ x. get_or x o 0) (sym row) ∙ sym (byte-of-part free (O c * u) (O c) o h) in
     rw (fault-free, shown-at c f (values_at c t f (power_up c) u) o h)
 
 pub first_scanned : (c t free : List ℕ) (size units : ℕ) (f : Fault) → size ≡ O c → units ≤ L c t → Rows (O c) (L c t) free (free_outputs c t)

@@ -1,6 +1,8 @@
 // Stage 1 of Grade for up to 64 faults at once, one to a lane: the first place at which an output opposes what the fault-free circuit shows,
 // by time unit and in it by line. Once every lane has its place the run ends. On the way the same outputs tell stage 2's condition of the
 // lanes that have none: whether some place is specified fault-free and X faulty.
+#![tactic(auto)]
+
 ghost use Rattle.std.specs.Prelude.{◌*◌, ◌<◌, ◌≤◌, length};
 ghost use Rattle.model.specs.Inputs.{O, L};
 ghost use Rattle.run.specs.Run.{Runnable};
@@ -35,7 +37,7 @@ fn note(new: u64, u: usize, line: usize, times: &mut [usize], lines: &mut [usize
 }
 
 // The lanes that have a place, and those with an output that is X where its fault-free value is specified.
-#[derive(Drop)]
+#[derive(Clone, Copy)]
 pub struct Firsts {
     pub found: u64,
     pub left: u64,

@@ -1,5 +1,7 @@
 // The pairs that Choose proposes for a fault, in arrays that are lent: its plain run beside the fault-free one, which is stage 1; stages 2 to 4; and
 // where they all leave it open the picks.
+#![tactic(auto)]
+
 ghost use Rattle.std.proofs.Math.Option.{none};
 ghost use Rattle.std.specs.Prelude.{◌≡◌, length};
 ghost use Rattle.model.specs.Inputs.{fault_at};

@@ -1,5 +1,7 @@
 // The calls that read bench text: `read_bench`, which writes a circuit's records, and `name_of`, which hands back the name of a line. A text is
 // walked twice: once to hold the names of its lines, and once to check its text lines in order and to write the records.
+#![tactic(auto)]
+
 ghost use Rattle.std.specs.Prelude.{◌≡◌, ℕ, ◌+◌, ◌<◌, length, replicate};
 ghost use Rattle.lists.specs.Field.{row_of};
 ghost use Rattle.bench_text.specs.Bench.{text_rows, read_answer, read_area, name_part, name_of};
@@ -128,7 +130,7 @@ pub fn read_bench(text: &[u8], res: &mut [u8]) -> Outcome
             if res.len() < size {
                 return Outcome::Refused { rule: 14, at: 0 };
             }
-            bytes::copy(&records[..size], res);
+            res[..size].copy_from_slice(&records[..size]);
             Outcome::Done(count)
         }
     }

@@ -1,4 +1,6 @@
 // The verdict record of Grade: what it says of one fault, and its 16 bytes.
+#![tactic(auto)]
+
 ghost use Rattle.std.specs.Prelude.{◌++◌, ◌≡◌, ◌+◌, ◌≤◌, length};
 ghost use Rattle.std.proofs.lemmas.List.Edits.{sets};
 ghost use Rattle.lists.specs.Field.{bytes16, overwritten};
@@ -6,7 +8,7 @@ ghost use Rattle.model.specs.Grade.{placed, record_bytes};
 ghost use Rattle.record.specs.Record.{verdict_of, carrying};
 
 // The record's fields, in its order.
-#[derive(Drop)]
+#[derive(Clone, Copy)]
 pub struct Verdict {
     pub verdict: u8,
     pub m: u8,

@@ -9,7 +9,7 @@ use lib.Seq.{get_or-take, length-take-le}
 use native.Mathlib.Omega.{arith}
 use borrow.Author.Tests.{ne_eqb}
 use Rattle.lists.proofs.Tests.{or_left_false, or_right_false}
-use Rattle.lists.proofs.Scan.{get_d_any}
+use Rattle.lists.proofs.Scan.{get_or_any}
 use Rattle.model.specs.Accepted.{ThreeValued}
 use Rattle.model.specs.Values.{X, is_specified, opposes, some_oppose, give, give_row}
 use Rattle.model.specs.Implication.{where_x}
@@ -83,7 +83,7 @@ length-extra plain st count l e = let long : length (take count plain) ≡ count
 pub extra-at : (plain st : List ℕ) (count s v w : ℕ) → s < count → count ≤ length plain → length st ≡ count → v ≡ get_or st s X → w ≡ cond (eqb (get_or plain s 0) X) v X
     → w ≡ get_or (where_x (take count plain) st) s X
 extra-at plain st count s v w h l e is written =
-    let at : get_or (take count plain) s X ≡ get_or plain s 0 = get_or-take count plain s X h ∙ get_d_any plain s X 0 (omega arith) in
+    let at : get_or (take count plain) s X ≡ get_or plain s 0 = get_or-take count plain s X h ∙ get_or_any plain s X 0 (omega arith) in
     written ∙ rw (is, ← at) (place_at_lem (λ a b. cond (eqb a X) b X) where_x (λ a b xs ys. unfold where_x in refl) (take count plain) st s X (rw (length-take-le count plain l) h) (omega arith))
 
 -- a row whose places at X are filled from another

@@ -1,4 +1,6 @@
 // Rows of values as bytes, one a flip-flop: 0, 1, or 2 for X. An extra is such a row, X where it says nothing; the state list has one a unit.
+#![tactic(auto)]
+
 ghost use Rattle.std.specs.Prelude.{false, cond, List, ◌≡◌, ℕ, ◌<◌, ◌≤◌, eqb, length, take, set, replicate};
 ghost use Rattle.lists.specs.Field.{overwritten};
 ghost use Rattle.model.specs.Accepted.{ThreeValued};
@@ -13,7 +15,7 @@ pub fn copy_row(from: &[u8], count: usize, to: &mut [u8])
     requires { (count ≤ length from.now) × (count ≤ length to.old) }
     ensures { to.new ≡ overwritten (take count from.now) to.old }
 {
-    bytes::copy(&from[..count], to);
+    to[..count].copy_from_slice(&from[..count]);
 }
 
 // The second where the first is X, else the third.

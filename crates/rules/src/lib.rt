@@ -1,4 +1,6 @@
 // Rows 1 to 6 of the table of refusals: what is wrong with a circuit. Rows are joined as the table joins them: the first that is broken.
+#![tactic(auto)]
+
 ghost use Rattle.std.specs.Prelude.{cond, List, ◌≡◌, ℕ, ◌+◌, ◌*◌, ◌≤◌, leb, length};
 ghost use Rattle.lists.specs.Scan.{◌else◌, first_answer};
 ghost use Rattle.model.specs.Inputs.{N, kind, pin_count};
@@ -9,14 +11,14 @@ ghost use Rattle.rules.specs.Check.{refusal_of, CircuitChecked, names_from};
 use circuit::Sizes;
 
 // Whether a rule is broken, and if so its number and position.
-#[derive(Drop)]
+#[derive(Clone, Copy)]
 pub enum Check {
     Passed,
     Broken { rule: u8, at: usize },
 }
 
 // The sizes of a circuit that rows 1 to 6 pass, or the row that it breaks.
-#[derive(Drop)]
+#[derive(Clone, Copy)]
 pub enum CircuitCheck {
     Sized(Sizes),
     Broken { rule: u8, at: usize },

@@ -10,7 +10,7 @@ use native.Mathlib.Numerals.{add-one}
 use native.Mathlib.Omega.{arith}
 use native.Mathlib.Nat.{mul-le-mul}
 use Rattle.lists.specs.Scan.{any_below, gather}
-use Rattle.lists.proofs.Scan.{All, all-at, select-all, length-select, length-gather, gather-turn, get_d_any, any_below-more, count_below-bound}
+use Rattle.lists.proofs.Scan.{All, all-at, select-all, length-select, length-gather, gather-turn, get_or_any, any_below-more, count_below-bound}
 use Rattle.lists.specs.Field.{row_of}
 use Rattle.lists.proofs.Field.{row_fits, part-taken}
 use Rattle.lists.proofs.Tests.{and_left, by-test, by-eq}
@@ -147,7 +147,7 @@ module _ (lane wanted : ℕ) (row before : List ℕ) where
       (λ b.
       let same = is b in
       let low : m < count = omega (arith, ap length same, length-take-le count row l) in
-      let value : get_or vs m X ≡ get_or row m 0 = ap (λ v. get_or v m X) same ∙ get_or-take count row m X low ∙ get_d_any row m X 0 (omega arith) in
+      let value : get_or vs m X ≡ get_or row m 0 = ap (λ v. get_or v m X) same ∙ get_or-take count row m X low ∙ get_or_any row m X 0 (omega arith) in
       rw value (h.taken b m low))
       (λ b. h.kept b m _ (keeps b m k))
 
@@ -183,7 +183,7 @@ module _ (c : List ℕ) (f : Fault) (vs : List ℕ) where
   pub shown-at : (o : ℕ) → o < O c → get_or vs (get_or (output_lines c) o 0) X ≡ get_or (outputs c f vs) o X
   shown-at o h =
       let long : length (outputs c f vs) ≡ O c = length-outputs in
-      sym (get_d_any (outputs c f vs) o X (shown f vs 0) (omega arith) ∙ mapped)
+      sym (get_or_any (outputs c f vs) o X (shown f vs 0) (omega arith) ∙ mapped)
     where
       mapped : get_or (outputs c f vs) o (shown f vs 0) ≡ get_or vs (get_or (output_lines c) o 0) X
       mapped = unfold outputs shown in get_or-map (λ n. get_or vs n X) (output_lines c) o 0

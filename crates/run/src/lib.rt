@@ -1,4 +1,6 @@
 // Runs of a test in 64 lanes, unit by unit: what a lane shows, as tables in a lent area, and the lanes in which an output opposes.
+#![tactic(auto)]
+
 ghost use Rattle.std.specs.Prelude.{true, false, ◌&&◌, List, ◌≡◌, ℕ, ◌+◌, ◌*◌, ◌<◌, ◌≤◌, length, take};
 ghost use Rattle.lists.specs.Scan.{any_below, gather};
 ghost use Rattle.lists.specs.Field.{overwritten, row_of};

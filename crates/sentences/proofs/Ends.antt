@@ -11,7 +11,7 @@ use Rattle.lists.proofs.Tests.{by-test}
 use Rattle.bench_text.specs.Text.{up_to, line_bytes, next_line, line_tokens}
 use Rattle.bench_text.proofs.Tokens.{up_to-take, up_to-length, line-token}
 use Rattle.tokens.specs.Kept.{kept}
-use Rattle.tokens.proofs.Laws.{length-kept, get_d_kept}
+use Rattle.tokens.proofs.Laws.{length-kept, get_or_kept}
 use Rattle.sentences.specs.Line.{TokensKept}
 
 -- the first place of a byte is where the bytes before it end
@@ -65,6 +65,6 @@ tokens-kept text at parts count room few e =
     record {
       room = room;
       few = few;
-      some = λ i h. rw (← get_d_kept parts count i h, e) (line-token text at i (rw (← e, length-kept) h)).lies.some;
-      ends = λ i h. rw (← get_d_kept parts count i h, e) (line-token text at i (rw (← e, length-kept) h)).lies.ends;
+      some = λ i h. rw (← get_or_kept parts count i h, e) (line-token text at i (rw (← e, length-kept) h)).lies.some;
+      ends = λ i h. rw (← get_or_kept parts count i h, e) (line-token text at i (rw (← e, length-kept) h)).lies.ends;
     }

@@ -9,7 +9,7 @@ use lib.ListN.{get_or, length}
 use borrow.Author.Tests.{leb-true}
 use Rattle.lists.specs.Scan.{tabulate}
 use Rattle.lists.proofs.Tests.{and_left, and_right, by-test, is_false}
-use Rattle.lists.proofs.Scan.{length-tabulate, get_d_tabulate, tabulate-same}
+use Rattle.lists.proofs.Scan.{length-tabulate, get_or_tabulate, tabulate-same}
 use Rattle.model.proofs.Accepted.{few-pins}
 use Rattle.bench_text.specs.Sentence.{Sentence, OUTPUT, MALFORMED, no_part, token, is, is_name, is_call, pin_tokens, line_kind, is_head, is_line, gate_sentence}
 use Rattle.bench_text.proofs.Sentences.{call-name, line-name, line-pins}
@@ -70,7 +70,7 @@ module _ (parts : List ℕ) (s : Sentence) (next : ℕ) where
     size = refl;
     count = sym (length-tabulate _ 0 pins);
     room = omega arith;
-    pin = λ i h. get_d_tabulate (λ i. part_of parts (4 + 2 * i)) 0 pins i no_part h ∙ ap (λ k. part_of parts (4 + 2 * k)) (let z : 0 + i ≡ i = omega arith in z);
+    pin = λ i h. get_or_tabulate (λ i. part_of parts (4 + 2 * i)) 0 pins i no_part h ∙ ap (λ k. part_of parts (4 + 2 * k)) (let z : 0 + i ≡ i = omega arith in z);
   })
 
 -- ---- the sentence of tokens that are kept

@@ -8,11 +8,11 @@ use Rattle.lists.proofs.Tests.{and_left}
 use Rattle.bench_text.specs.Text.{same}
 use Rattle.bench_text.specs.Sentence.{kind_from, token, pin_tokens, is_head}
 use Rattle.tokens.specs.Kept.{part_of, kept}
-use Rattle.tokens.proofs.Laws.{length-kept, get_d_kept}
+use Rattle.tokens.proofs.Laws.{length-kept, get_or_kept}
 
 pub token-kept : (text parts : List ℕ) (count i : ℕ) → i < count → token text (kept parts count) i ≡ part_of parts i
 unfolding token
-token-kept text parts count i h = get_d_kept parts count i h
+token-kept text parts count i h = get_or_kept parts count i h
 
 pub pins-kept : (text parts : List ℕ) (count : ℕ) → pin_tokens text (kept parts count) ≡ (count - 4) / 2
 unfolding pin_tokens

@@ -1,4 +1,6 @@
 // What a text line says: the four forms of a bench text, told from the line's tokens.
+#![tactic(auto)]
+
 ghost use Rattle.std.specs.Prelude.{cond, not, ◌≡◌, ◌+◌, ◌*◌, ◌<◌, ◌≤◌, length};
 ghost use Rattle.lists.specs.Scan.{any_below};
 ghost use Rattle.bench_text.specs.Text.{bytes_of, next_line};
@@ -15,7 +17,7 @@ pub const MALFORMED: u8 = 12;
 
 // What a text line says: its sort; the name that it defines, as a part of the text; its pins, of which the first is token `first` and each
 // further one stands two tokens behind; and where the next text line begins.
-#[derive(Drop)]
+#[derive(Clone, Copy)]
 pub struct Line {
     pub sort: u8,
     pub at: usize,
@@ -225,6 +227,21 @@ fn told(text: &[u8], parts: &[usize], count: usize, next: usize) -> Line
     gate_told(text, parts, count, next)
 }
 
+// The first place of this byte from `at` on and before `end`; `end` where there is none.
+fn find(text: &[u8], at: usize, end: usize, byte: u8) -> usize
+    requires { (at ≤ end) × (end ≤ length text.now) }
+    ensures { result ≡ at + length (up_to byte (take (end - at) (drop at text.now))) }
+{
+    let mut i = at;
+    while i < end {
+        if text[i] == byte {
+            return i;
+        }
+        i += 1;
+    }
+    end
+}
+
 // What the text line that begins here says; its tokens are put into `parts`.
 pub fn read_line(text: &[u8], at: usize, parts: &mut [usize]) -> Line
     requires { (at ≤ length text.now) × (length parts.old ≡ 32) }
@@ -232,8 +249,8 @@ pub fn read_line(text: &[u8], at: usize, parts: &mut [usize]) -> Line
     ensures next { result.next ≡ next_line text.now at }
     ensures tells { Tells parts.new (sentence_from text.now at) result }
 {
-    let end = bytes::scan::find(text, at, text.len(), 10);
-    let to = bytes::scan::find(text, at, end, 35);
+    let end = find(text, at, text.len(), 10);
+    let to = find(text, at, end, 35);
     let count = tokens::scan(text, at, to, parts);
     if 12 < count {
         return without(MALFORMED, end + 1);

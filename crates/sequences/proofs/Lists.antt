@@ -13,7 +13,7 @@ use native.Mathlib.Omega.{arith}
 use native.Mathlib.Nat.{div-one}
 use Rattle.lists.specs.Field.{row_of, Rows}
 use Rattle.lists.proofs.Tests.{by-test, cond_cases, or_left_false, or_right_false}
-use Rattle.lists.proofs.Scan.{get_d_any}
+use Rattle.lists.proofs.Scan.{get_or_any}
 use Rattle.lists.proofs.Field.{part-row, row_fits, length-row}
 use Rattle.rows.proofs.Laws.{length-give_row}
 use Rattle.model.specs.Inputs.{F, L, Fault}
@@ -141,8 +141,8 @@ pub picked : (lane ones : ℕ) (low high new : List ℕ) (s : ℕ) (x y r : Lane
     → ((t v : ℕ) → (bit t ones ≡ false → Holds t x v) → (bit t ones ≡ true → Holds t y v) → Holds t r v) → (bit lane ones ≡ false → new ≡ low) → (bit lane ones ≡ true → new ≡ high)
     → Holds lane r (get_or new s X)
 picked lane ones low high new s x y r hl hh l h merge isLow isHigh = merge lane _
-    (λ e. let same : get_or new s X ≡ get_or low s 0 = ap (λ row. get_or row s X) (isLow e) ∙ get_d_any low s X 0 hl in rw same l)
-    (λ e. let same : get_or new s X ≡ get_or high s 0 = ap (λ row. get_or row s X) (isHigh e) ∙ get_d_any high s X 0 hh in rw same h)
+    (λ e. let same : get_or new s X ≡ get_or low s 0 = ap (λ row. get_or row s X) (isLow e) ∙ get_or_any low s X 0 hl in rw same l)
+    (λ e. let same : get_or new s X ≡ get_or high s 0 = ap (λ row. get_or row s X) (isHigh e) ∙ get_or_any high s X 0 hh in rw same h)
 
 pub picked-long : (lane ones n : ℕ) (low high new : List ℕ) → length low ≡ n → length high ≡ n → (bit lane ones ≡ false → new ≡ low) → (bit lane ones ≡ true → new ≡ high) → length new ≡ n
 picked-long lane ones n low high new l h isLow isHigh = by-test (bit lane ones) (λ e. ap length (isHigh e) ∙ h) (λ e. ap length (isLow e) ∙ l)

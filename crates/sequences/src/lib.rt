@@ -1,6 +1,8 @@
 // Stage 5's sequences, 64 at a time. With m pairs taken there are 2^m sequences; bit q of a sequence's number is the value of taken pair q.
 // Lane t of a block stands for the sequence base + t. The list of a sequence is not made: a state is given the state list's row and then the
 // extras of the pairs of that unit. A lane that has ended goes on with whatever it holds, and nothing is said of it.
+#![tactic(auto)]
+
 ghost use Rattle.std.specs.Prelude.{true, false, cond, List, ◌≡◌, ℕ, ◌+◌, ◌*◌, ◌<◌, ◌≤◌, ◌/◌, ◌%◌, ◌^◌, eqb, length, get_or};
 ghost use Rattle.lists.specs.Field.{row_of};
 ghost use Rattle.model.specs.Inputs.{F, O, L};
@@ -13,7 +15,7 @@ use job::Job;
 use lanes::Lanes;
 
 // How many sequences end differing, clashing, surviving.
-#[derive(Drop)]
+#[derive(Clone, Copy)]
 pub struct Endings {
     pub differing: usize,
     pub clashing: usize,
@@ -35,7 +37,7 @@ impl Endings {
 }
 
 // The lanes by how they end; those that go on still survive.
-#[derive(Drop)]
+#[derive(Clone, Copy)]
 struct Ends {
     differing: u64,
     clashing: u64,

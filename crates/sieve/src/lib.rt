@@ -1,5 +1,7 @@
 // Stage 1 of a whole list over the first units of its test, where most of the faults that it ends show themselves. Such a fault has its record;
 // that of every other starts with 0, the mark of an open fault. Open faults are then packed, so that up to 64 of them share a run to the end.
+#![tactic(auto)]
+
 ghost use Rattle.std.specs.Prelude.{◌≡◌, ◌+◌, ◌*◌, ◌<◌, ◌≤◌, length};
 ghost use Rattle.model.specs.Inputs.{L, fault_at, fault_count};
 ghost use Rattle.model.specs.Accepted.{ValidInputs};
@@ -140,7 +142,7 @@ pub fn sieve(
 }
 
 // A pack: so many open faults, all there are from where it begins up to `to`.
-#[derive(Drop)]
+#[derive(Clone, Copy)]
 pub struct Pack {
     pub size: usize,
     pub to: usize,

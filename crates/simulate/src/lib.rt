@@ -1,4 +1,6 @@
 // The call Simulate: the plain responses of a circuit, with at most one fault, to a test.
+#![tactic(auto)]
+
 ghost use Rattle.std.specs.Prelude.{◌≡◌, ◌*◌, ◌<◌, ◌≤◌, length};
 ghost use Rattle.lists.specs.Field.{overwritten};
 ghost use Rattle.model.specs.Inputs.{O, L, fault_at, fault_count};

@@ -1,5 +1,7 @@
 // Stages 2 to 6 of a fault that all lanes have and that stage 1 left open. They go in order, and the first that gives a verdict ends the fault's
 // work.
+#![tactic(auto)]
+
 ghost use Rattle.std.proofs.Math.Option.{none};
 ghost use Rattle.std.specs.Prelude.{◌≡◌, ◌*◌, ◌/◌, ◌%◌, ◌<◌, ◌≤◌, length, get_or};
 ghost use Rattle.model.specs.Inputs.{O, L, Fault};
@@ -41,7 +43,7 @@ pub type Extras = [u8; 6144];
 
 // What stages 2 to 4 come to: at how many units Nout is above 0, and if there are any the position of the pair that gives verdict 2, or the end
 // of the walk over the pairs.
-#[derive(Drop)]
+#[derive(Clone, Copy)]
 pub struct Middle {
     pub left: usize,
     pub pair: usize,

@@ -1,5 +1,7 @@
 // Stage 6 of Grade: starting states from number 0 up, 64 at a time, until one never differs. Lane l of a block is the run of the starting
 // state base + l, and the lowest of the lanes in which no output ever opposes is the answer.
+#![tactic(auto)]
+
 ghost use Rattle.std.specs.Prelude.{not, ◌&&◌, ◌≡◌, ℕ, ◌+◌, ◌*◌, ◌<◌, ◌≤◌, ◌%◌, ltb, length};
 ghost use Rattle.lists.specs.Field.{Rows};
 ghost use Rattle.model.specs.Inputs.{F, O, L, Fault};

@@ -12,7 +12,7 @@ use lib.Seq.{get_or-take, get_or-drop, drop-cons, drop-length}
 use borrow.Author.Tests.{eqb-true, ltb-true, le-leb, lt-leb, lt-ltb, le-ltb}
 use Rattle.lists.specs.Field.{row_of, Rows}
 use Rattle.lists.proofs.Field.{row_fits, part-taken, length-row}
-use Rattle.lists.proofs.Scan.{get_d_any}
+use Rattle.lists.proofs.Scan.{get_or_any}
 use Rattle.lists.proofs.Tests.{by-test, and_left, and_right}
 use Rattle.model.specs.Inputs.{F, L, Fault}
 use Rattle.model.specs.Values.{X, is_specified}
@@ -128,7 +128,7 @@ module _ (c t : List ℕ) (f : Fault) (list : List ℕ) (left : ℕ) (rows : Row
   bit_as h l =
       let fits : F c * u + F c ≤ length list = omega (arith, row_fits (F c) u (L c t) h) in
       let long : length (row_of (F c) list u) ≡ F c = length-row (F c) u list fits in
-      ap (λ row. get_or row i X) (sym (rows.at u h)) ∙ get_d_any (row_of (F c) list u) i X 0 (omega arith) ∙ get_or-take (F c) (drop (F c * u) list) i 0 l ∙ get_or-drop (F c * u) list i 0
+      ap (λ row. get_or row i X) (sym (rows.at u h)) ∙ get_or_any (row_of (F c) list u) i X 0 (omega arith) ∙ get_or-take (F c) (drop (F c * u) list) i 0 l ∙ get_or-drop (F c * u) list i 0
 
   abbrev apart : Bool
   apart = not (touches c t f pairs u (extra c t f u i 0)) && not (touches c t f pairs u (extra c t f u i 1))

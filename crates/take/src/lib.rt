@@ -1,5 +1,7 @@
 // Stage 5, the plan: its pairs in order, each taken or passed over, and the extras of those taken. A pair's extras are made in the two rows
 // behind those of the pairs taken so far; where it is passed over, the next pair's are written over them.
+#![tactic(auto)]
+
 ghost use Rattle.std.specs.Prelude.{false, ◌&&◌, ◌||◌, ◌≡◌, ◌+◌, ◌*◌, ◌<◌, ◌≤◌, eqb, length, get_or, set, replicate};
 ghost use Rattle.model.specs.Inputs.{F, O, L, plan_count};
 ghost use Rattle.model.specs.Values.{X};

@@ -1,5 +1,7 @@
 // Lanes that stand for consecutive numbers, and words of lanes, counted and searched. Lane t of a block stands for the number base + t, base a
 // multiple of 64: of a number's bits the lowest six are then the lane's own, and all others those of base.
+#![tactic(auto)]
+
 ghost use Rattle.std.specs.Prelude.{not, ◌&&◌, ◌≡◌, ℕ, ◌+◌, ◌<◌, ◌≤◌, ◌/◌, ◌%◌, ◌^◌, eqb, ltb};
 ghost use Rattle.std.proofs.Math.Option.{get_or};
 ghost use Rattle.lists.specs.Scan.{count_below, first};

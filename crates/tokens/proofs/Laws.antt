@@ -19,11 +19,11 @@ unfolding kept
 length-kept parts zero = refl
 length-kept parts (suc n) = length-append (kept parts n) _ ∙ rw (length-kept parts n) (omega arith)
 
-pub get_d_kept : (parts : List ℕ) (n i : ℕ) → i < n → get_or (kept parts n) i no_part ≡ part_of parts i
+pub get_or_kept : (parts : List ℕ) (n i : ℕ) → i < n → get_or (kept parts n) i no_part ≡ part_of parts i
 unfolding kept
-get_d_kept parts zero i h = absurd (let z : ⊥ = omega arith in z)
-get_d_kept parts (suc n) i h = elim (dec_le (suc i) n) [
-  | yes g ↦ get_or-append (kept parts n) _ no_part i (rw length-kept g) ∙ get_d_kept parts n i g
+get_or_kept parts zero i h = absurd (let z : ⊥ = omega arith in z)
+get_or_kept parts (suc n) i h = elim (dec_le (suc i) n) [
+  | yes g ↦ get_or-append (kept parts n) _ no_part i (rw length-kept g) ∙ get_or_kept parts n i g
   | no g ↦ (
       let here : i ≡ length (kept parts n) + 0 = omega (arith, length-kept parts n) in
       let same : i ≡ n = omega arith in

@@ -1,5 +1,7 @@
 // The tokens of a text line: each longest run of letters, digits and underscores, and each other byte that is no space. A token is kept as two
 // words, where it begins in the text and how many bytes it has.
+#![tactic(auto)]
+
 ghost use Rattle.std.specs.Prelude.{◌++◌, ◌≡◌, ◌+◌, ◌-◌, ◌<◌, ◌≤◌, length, take, drop};
 ghost use Rattle.bench_text.specs.Text.{is_name_byte, tokens};
 ghost use Rattle.tokens.specs.Kept.{kept, part_if, Scanned};

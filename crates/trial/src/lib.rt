@@ -1,5 +1,7 @@
 // Trials of pairs of a time unit and a flip-flop, up to 32 in a word: lanes 2 p and 2 p + 1 try pair p with 0 and with 1. The pairs of a word may be
 // of different units, for each lane has the inputs and the plain state of its own.
+#![tactic(auto)]
+
 ghost use Rattle.std.specs.Prelude.{true, false, cond, List, ◌≡◌, ℕ, ◌+◌, ◌*◌, ◌-◌, ◌/◌, ◌%◌, ◌<◌, ◌≤◌, eqb, leb, length, get_or};
 ghost use Rattle.lists.specs.Field.{row_of};
 ghost use Rattle.model.specs.Inputs.{N, I, F, O, L, flip_flops, output_lines, Fault};

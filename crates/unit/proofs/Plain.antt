@@ -1,7 +1,7 @@
 -- A gate with no fault, of a kind up to 7, as one AND of four pins. A pin that it does not have is read as pin 1 again, and OR reads its pins
 -- inverted.
 use mathlib.Core.Path.{◌≡◌, refl, sym, ◌∙◌}
-use mathlib.Core.Bool.{Bool, true, false, ◌&&◌, ◌||◌, or-false, and_true}
+use mathlib.Core.Bool.{Bool, true, false, ◌&&◌, ◌||◌, or-false, and-true}
 use mathlib.Core.List.{List, [], ◌∷◌}
 use Prim.Native.Nat.{ℕ, zero, suc, ◌+◌, ◌/◌, ◌≤◌}
 use native.Mathlib.Omega.{arith}
@@ -61,7 +61,7 @@ and_3 true b c = refl
 and_3 false b c = refl
 
 and_4 : (a b c d : Bool) → ((a && b) && (c && d)) ≡ (a && (b && (c && (d && true))))
-and_4 true b c d = rw (and_true d)
+and_4 true b c d = rw (and-true d)
 and_4 false b c d = refl
 
 module _ (t z o : ℕ) (w : ℕ → ℕ) where
@@ -86,7 +86,7 @@ module _ (t z o : ℕ) (w : ℕ → ℕ) where
 -- a buffer and NOT have one pin
 buffered : (t z o v : ℕ) → Shows t z o (and_of (v ∷ [])) → Shows t z o v
 unfolding any_zero all_one
-buffered t z o v h = record { zero? = h.zero? ∙ (and_tests (v ∷ [])).0 ∙ or-false (is0 v); one? = h.one? ∙ (and_tests (v ∷ [])).1 ∙ and_true (is1 v) }
+buffered t z o v h = record { zero? = h.zero? ∙ (and_tests (v ∷ [])).0 ∙ or-false (is0 v); one? = h.one? ∙ (and_tests (v ∷ [])).1 ∙ and-true (is1 v) }
 
 pub shows_low : (t z o k m : ℕ) (w : ℕ → ℕ) → 2 ≤ k → k ≤ 5 → (k ≤ 3 → m ≡ 1) → Shows t z o (and_of (tabulate w 1 m)) → Shows t z o (even_gate (k / 2) (tabulate w 1 m))
 shows_low t z o k m w a b one h = elim (dec_le k 3) [

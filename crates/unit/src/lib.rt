@@ -1,4 +1,6 @@
 // One time unit in 64 lanes, with inputs, a state and a fault of its own in each: the values of all lines, in line order, and the next state.
+#![tactic(auto)]
+
 ghost use Rattle.std.specs.Prelude.{◌≡◌, List, true, false, ℕ, ◌+◌, ◌*◌, ◌<◌, ◌≤◌, length};
 ghost use Rattle.model.specs.Inputs.{N, kind, pin_line, is_gate, I, F, flip_flops, Fault};
 ghost use Rattle.model.specs.Accepted.{ValidCircuit};

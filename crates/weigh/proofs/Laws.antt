@@ -11,7 +11,7 @@ use lib.Seq.{get_or-take, get_or-drop}
 use borrow.Author.Tests.{eq-eqb, ne_eqb, eqb-true, eqb-false, lt-ltb, le-leb, lt-leb}
 use Rattle.lists.specs.Field.{bytes16, overwritten, row_of, Rows}
 use Rattle.lists.proofs.Field.{part-taken}
-use Rattle.lists.proofs.Scan.{get_d_any}
+use Rattle.lists.proofs.Scan.{get_or_any}
 use Rattle.lists.proofs.Tests.{by-test, by-eq, cond_cases}
 use Rattle.model.specs.Inputs.{N, F, O, L, Fault}
 use Rattle.model.specs.Values.{X, is_specified}
@@ -150,7 +150,7 @@ module _ {c t : List ℕ} {f : Fault} {pairs : List (ℕ × ℕ)} {count stop : 
   unfolding state_row row_of
   bit_is =
       let low : e % F c < F c = place-below (F c) e some in
-      get_d_any (state_row c t f (e / F c)) (e % F c) X 0 (rw (length-after c t f (e / F c) (F c)) low) ∙ ap (λ r. get_or r (e % F c) 0) (sym (w.rows.at (e / F c) (w.unit e inside)))
+      get_or_any (state_row c t f (e / F c)) (e % F c) X 0 (rw (length-after c t f (e / F c) (F c)) low) ∙ ap (λ r. get_or r (e % F c) 0) (sym (w.rows.at (e / F c) (w.unit e inside)))
       ∙ get_or-take (F c) (drop (F c * (e / F c)) list) (e % F c) 0 low ∙ get_or-drop (F c * (e / F c)) list (e % F c) 0 ∙ ap (λ k. get_or list k 0) (sym (position (F c) e))
 
   pub known_at : is_x list e ≡ false → weight_bytes 0 0 ≡ entry_of c t f pairs (e / F c) (e % F c)

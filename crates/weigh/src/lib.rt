@@ -1,5 +1,7 @@
 // Weighing pairs for Choose: of each pair of a time unit and a flip-flop, whether stage 5 would take it next, and how many bits its two extras give.
 // That is kept in a table, so that a pick works out no implication: after it only the pairs that it may touch are weighed again.
+#![tactic(auto)]
+
 ghost use Rattle.std.specs.Prelude.{◌≡◌, true, ◌+◌, ◌*◌, ◌/◌, ◌<◌, ◌≤◌, min, max, length};
 ghost use Rattle.lists.specs.Field.{row_of};
 ghost use Rattle.model.specs.Inputs.{F, O, L};
@@ -14,7 +16,7 @@ use job::Job;
 use stages::{Times, Trials};
 
 // Two numbers, the smaller first.
-#[derive(Drop)]
+#[derive(Clone, Copy)]
 pub struct Sizes {
     pub small: usize,
     pub large: usize,

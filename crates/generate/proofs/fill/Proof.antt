@@ -8,7 +8,7 @@ use lib.ListN.{get_or, length, take, length-set}
 use borrow.Author.Rules.{rules}
 use Rattle.lists.specs.Scan.{tabulate}
 use Rattle.lists.specs.Field.{overwritten}
-use Rattle.lists.proofs.Scan.{length-tabulate, get_d_tabulate}
+use Rattle.lists.proofs.Scan.{length-tabulate, get_or_tabulate}
 use Rattle.lists.proofs.Field.{overwritten-none, row_more, row-all}
 use Rattle.model.specs.Generate.{step, stepped, generate_byte}
 use Rattle.generate.proofs.fill.Statement.{statement}
@@ -51,7 +51,7 @@ byte c =
     let s = (start (turn c)).args in
     let b = (turn c).loop.b in
     let here : b ≡ 0 + b = omega arith in
-    ap (λ x. x % 2) (next c) ∙ ap (generate_byte s.seed) here ∙ sym (get_d_tabulate (λ b. generate_byte s.seed b) 0 s.size b 0 c.before.loop-test.true)
+    ap (λ x. x % 2) (next c) ∙ ap (generate_byte s.seed) here ∙ sym (get_or_tabulate (λ b. generate_byte s.seed b) 0 s.size b 0 c.before.loop-test.true)
 
 loop-again : tie.Need-loop-preserved invariant-loop decreases-loop
 loop-again c =
