@@ -1,7 +1,9 @@
 // The program `names`: `NUMBER NAME` for each line of the circuit that a bench text describes, in order, on standard output. What is wrong is told
 // on standard error.
+#![tactic(auto)]
+
 ghost use Rattle.std.specs.Prelude.{◌≡◌, ◌+◌, ◌*◌, ◌<◌, ◌≤◌, length};
-ghost use Rattle.io.specs.Counts.{IsPrefixLen};
+ghost use Rattle.printing.specs.Prefix.{IsPrefixLen};
 ghost use Rattle.names.specs.Named.{Named};
 
 use job::Outcome;
@@ -16,7 +18,9 @@ fn put_name(out: &mut [u8], at: usize, name: &[u8]) -> usize
     requires { at + length name.now ≤ length out.old }
     ensures { result ≡ at + length name.now }
 {
-    at + bytes::copy(name, &mut out[at..])
+    let end = at + name.len();
+    out[at..end].copy_from_slice(name);
+    end
 }
 
 // Line n with its name, behind the lines that stand there; where the next begins.
@@ -35,43 +39,42 @@ fn put_names(out: &mut [u8], text: &[u8], names: &[usize], count: usize) -> usiz
     ensures { IsPrefixLen result out.new }
 {
     let mut at: usize = 0;
-    let mut n: usize = 0;
-    while n < count {
+    for n in 0..count {
         at = put_line(out, at, n, lookup::name(text, names, n));
-        n += 1;
     }
     at
 }
 
-fn write(text: &[u8], names: &[usize; NAMES], count: usize)
+fn write(rt: &(impl Print + Eprint), text: &[u8], names: &[usize; NAMES], count: usize)
     requires { Named text.now names.now count }
 {
     let mut out = [0u8; PRINT];
     let size = put_names(&mut out, text, names, count);
-    printing::deliver(&out[..size], b"names: cannot write the names\n");
+    printing::deliver(rt, &out[..size], "names: cannot write the names\n");
 }
 
 // The names of the text's lines, or why there are none.
-fn list(text: &[u8]) {
+fn list(rt: &(impl Print + Eprint), text: &[u8]) {
     let mut names = [0usize; NAMES];
     let mut heads = [0usize; HEADS];
     let mut records = [0u8; RECORDS];
     match read_bench::inspect(text, &mut names, &mut heads, &mut records) {
-        Outcome::Refused { rule, at } => bench_file::tell_refused(b"names", rule, at),
-        Outcome::Done(count) => write(text, &names, count),
+        Outcome::Refused { rule, at } => bench_file::tell_refused(rt, "names", rule, at),
+        Outcome::Done(count) => write(rt, text, &names, count),
     }
 }
 
-fn main() {
+fn main(rt: HostRuntime) {
     let mut area = bench_file::area();
     let text = bench_file::read_text(
-        b"names",
-        b"the number and the name of each line of a circuit",
+        &rt,
+        "names",
+        "the number and the name of each line of a circuit",
         &mut area,
     );
     if !text.whole {
         return;
     }
     let size = text.size;
-    list(&area[..size]);
+    list(&rt, &area[..size]);
 }
