@@ -1,20 +1,30 @@
 // The program: reads circuit.dat, test.dat, faults.dat and plan.dat and prints what `listing` makes of them. A file that cannot be read, and a
 // list that cannot be written, has a line on standard error.
+#![tactic(auto)]
+
 ghost use Rattle.std.specs.Prelude.{◌≤◌, length};
 ghost use Rattle.listing.specs.Print.{PrintRoom};
 
 use listing::Longer;
 
 // The list that stands at the beginning of the print.
-fn write(out: &[u8], size: usize)
+fn write(rt: &(impl Print + Eprint), out: &[u8], size: usize)
     requires { size ≤ length out.now }
 {
-    printing::deliver(&out[..size], b"grader: cannot write the list\n");
+    printing::deliver(rt, &out[..size], "grader: cannot write the list\n");
 }
 
 // Makes the list of the four files in a print that is lent, and writes it. Three functions lend one, each for so many faults at most: all pages
 // of an array are touched when its function is called, and in a job of a few lines these are most of the time.
-fn list(circuit: &[u8], test: &[u8], faults: &[u8], plan: &[u8], longer: Longer, out: &mut [u8])
+fn list(
+    rt: &(impl Print + Eprint),
+    circuit: &[u8],
+    test: &[u8],
+    faults: &[u8],
+    plan: &[u8],
+    longer: Longer,
+    out: &mut [u8],
+)
     requires { PrintRoom faults.now (length out.old) }
 {
     let mut work = [0u8; 65536];
@@ -31,49 +41,70 @@ fn list(circuit: &[u8], test: &[u8], faults: &[u8], plan: &[u8], longer: Longer,
         &mut groups,
         out,
     );
-    write(out, size);
+    write(rt, out, size);
 }
 
 // A print for 56 faults.
-fn list_short(circuit: &[u8], test: &[u8], faults: &[u8], plan: &[u8], longer: Longer)
+fn list_short(
+    rt: &(impl Print + Eprint),
+    circuit: &[u8],
+    test: &[u8],
+    faults: &[u8],
+    plan: &[u8],
+    longer: Longer,
+)
     requires { length faults.now ≤ 224 }
 {
     let mut out = [0u8; 4096];
-    list(circuit, test, faults, plan, longer, &mut out);
+    list(rt, circuit, test, faults, plan, longer, &mut out);
 }
 
 // A print for 909 faults.
-fn list_medium(circuit: &[u8], test: &[u8], faults: &[u8], plan: &[u8], longer: Longer)
+fn list_medium(
+    rt: &(impl Print + Eprint),
+    circuit: &[u8],
+    test: &[u8],
+    faults: &[u8],
+    plan: &[u8],
+    longer: Longer,
+)
     requires { length faults.now ≤ 3636 }
 {
     let mut out = [0u8; 65536];
-    list(circuit, test, faults, plan, longer, &mut out);
+    list(rt, circuit, test, faults, plan, longer, &mut out);
 }
 
 // A print for as many faults as have records.
-fn list_long(circuit: &[u8], test: &[u8], faults: &[u8], plan: &[u8], longer: Longer) {
+fn list_long(
+    rt: &(impl Print + Eprint),
+    circuit: &[u8],
+    test: &[u8],
+    faults: &[u8],
+    plan: &[u8],
+    longer: Longer,
+) {
     let mut out = [0u8; 294960];
-    list(circuit, test, faults, plan, longer, &mut out);
+    list(rt, circuit, test, faults, plan, longer, &mut out);
 }
 
-fn main() {
+fn main(rt: HostRuntime) {
     let mut circuit = [0u8; 65536];
     let mut test = [0u8; 65536];
     let mut faults = [0u8; 65536];
     let mut plan = [0u8; 65536];
-    let c = printing::read_file(b"circuit.dat", &mut circuit);
+    let c = printing::read_file(&rt, "circuit.dat", &mut circuit);
     if c.failed {
         return;
     }
-    let t = printing::read_file(b"test.dat", &mut test);
+    let t = printing::read_file(&rt, "test.dat", &mut test);
     if t.failed {
         return;
     }
-    let f = printing::read_file(b"faults.dat", &mut faults);
+    let f = printing::read_file(&rt, "faults.dat", &mut faults);
     if f.failed {
         return;
     }
-    let p = printing::read_file(b"plan.dat", &mut plan);
+    let p = printing::read_file(&rt, "plan.dat", &mut plan);
     if p.failed {
         return;
     }
@@ -92,10 +123,10 @@ fn main() {
         plan: p.more,
     };
     if faults.len() <= 224 {
-        list_short(circuit, test, faults, plan, longer);
+        list_short(&rt, circuit, test, faults, plan, longer);
     } else if faults.len() <= 3636 {
-        list_medium(circuit, test, faults, plan, longer);
+        list_medium(&rt, circuit, test, faults, plan, longer);
     } else {
-        list_long(circuit, test, faults, plan, longer);
+        list_long(&rt, circuit, test, faults, plan, longer);
     }
 }
