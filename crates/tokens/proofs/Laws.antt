@@ -53,6 +53,10 @@ kept_put parts n at size h = rw (
 )
 
 -- ---- how the tokens go on
+-- the bytes from a place up to the end
+abbrev pub rest : List ℕ → ℕ → ℕ → List ℕ
+rest text to i = take (to - i) (drop i text)
+
 -- the bytes from place i up to `to`
 pub rest-cons : (text : List ℕ) (i to : ℕ) → i < to → to ≤ length text
     → take (to - i) (drop i text) ≡ get_or text i 0 ∷ take (to - suc i) (drop (suc i) text)
