@@ -1,6 +1,6 @@
 """The programs `bench` and `names` on arguments and files of every sort: what they write to standard output and to standard error.
 
-Run it from the top of the repository after `rt check bench names`: python3 tests/bench_runs.py. Ends with status 1 where something differs. Records, names
+Run it from the top of the repository after `tools/build bench names`: python3 tests/bench_runs.py. Ends with status 1 where something differs. Records, names
 and refusals come from bench_reader.py.
 """
 import os

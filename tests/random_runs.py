@@ -1,6 +1,6 @@
 """The program `random` on arguments and files of every sort: what it writes to standard output and to standard error.
 
-Run it from the top of the repository after `rt check random`: python3 tests/random_runs.py. Ends with status 1 where something differs.
+Run it from the top of the repository after `tools/build random`: python3 tests/random_runs.py. Ends with status 1 where something differs.
 """
 import os
 import subprocess

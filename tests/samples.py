@@ -1,7 +1,7 @@
 """The program on every job in samples/, held to the list beside the job; the total of each list, to its lines; and the list of s27, to its
 published detection times.
 
-Run it from the top of the repository after `rt check grader`: python3 tests/samples.py. Ends with status 1 where something differs.
+Run it from the top of the repository after `tools/build grader`: python3 tests/samples.py. Ends with status 1 where something differs.
 """
 import os
 import subprocess

@@ -10,9 +10,11 @@ changes, and stops before it writes anything where two names would fall together
 import glob
 import os
 import re
+import subprocess
 import sys
 
-KIT = os.environ.get("RATTLE_KIT", "/opt/rattle/rattle")
+# the kit's library, beside the page that `rt doc` names
+KIT = os.path.join(os.path.dirname(subprocess.run(["rt", "doc"], capture_output=True, text=True, check=True).stdout.strip()), "rattle")
 SPLIT = re.compile(r"([\s()\[\]{},;.`\"λ]+)")
 DEFINED = re.compile(
     r"^\s*(?:(?:abbrev|unfoldable|pub|private|data|record|mutual|ruleset)\s+)*([^\s(){}\[\],;.:]+)(?:\s+[({][^)}]*[)}])*\s+:\s"
@@ -54,6 +56,7 @@ def defined(path):
 def snake(part):
     if not part or not part[0].islower():
         return part
+    part = re.sub("getD|^get_d(?=_|$)", "get_or", part)
     part = re.sub(r"(?<=[a-z0-9'])([A-Z])(?=[a-z0-9]|$|[A-Z]|')", lambda m: "_" + m.group(1).lower(), part)
     return part
 

@@ -1,43 +1,27 @@
 -- Where a text line ends, where its comment begins, and its tokens.
 use mathlib.Core.Path.{◌≡◌, refl, sym, ap, ◌∙◌}
-use mathlib.Core.List.{List, [], ◌∷◌}
-use Prim.Native.Nat.{ℕ, suc, ◌+◌, ◌-◌, ◌≤◌}
+use mathlib.Core.List.{List}
+use Prim.Native.Nat.{ℕ, ◌+◌, ◌-◌, ◌≤◌}
 use native.Mathlib.Omega.{arith}
-use lib.Dec.{eqb}
 use lib.ListN.{length, take, drop, length-drop}
-use lib.Seq.{take-length, take-add, take-take, drop_at, length-take-le}
-use Rattle.bytes.specs.Bytes.{slice, index_after, index_of}
-use Rattle.lists.proofs.Tests.{by-test}
+use lib.Seq.{take_all, take-take}
 use Rattle.bench_text.specs.Text.{up_to, line_bytes, next_line, line_tokens}
 use Rattle.bench_text.proofs.Tokens.{up_to-take, up_to-length, line-token}
 use Rattle.tokens.specs.Kept.{kept}
 use Rattle.tokens.proofs.Laws.{length-kept, get_or_kept}
 use Rattle.sentences.specs.Line.{TokensKept}
 
--- the first place of a byte is where the bytes before it end
-index-up_to : (b : ℕ) (xs : List ℕ) → index_of b xs ≡ length (up_to b xs)
-unfolding index_of index_after up_to
-index-up_to b [] = refl
-index-up_to b (x ∷ xs) = by-test (eqb x b) (λ e. rw e) (λ e. rw e (ap suc (index-up_to b xs)))
-
--- the bytes from one place up to another
-slice-part : (text : List ℕ) (at end : ℕ) → at ≤ end → end ≤ length text → slice at end text ≡ take (end - at) (drop at text)
-unfolding slice
-slice-part text at end l h =
-    let parts : at + (end - at) ≡ end = omega arith in
-    ap (λ n. drop at (take n text)) (sym parts) ∙ ap (drop at) (take-add at (end - at) text) ∙ drop_at (take at text) _ at (length-take-le at text (omega arith))
-
 -- the line of which `end` is the end
-module _ (text : List ℕ) (at end : ℕ) (h : at ≤ length text) (found : end ≡ at + index_of 10 (slice at (length text) text)) where
+module _ (text : List ℕ) (at end : ℕ) (h : at ≤ length text) (found : end ≡ at + length (up_to 10 (take (length text - at) (drop at text)))) where
   long : end ≡ at + length (line_bytes text at)
-  unfolding line_bytes slice
-  long = found ∙ ap (λ xs. at + index_of 10 (drop at xs)) (take-length text) ∙ ap (λ n. at + n) (index-up_to 10 (drop at text))
+  unfolding line_bytes
+  long = found ∙ ap (λ xs. at + length (up_to 10 xs)) (take_all (length text - at) (drop at text) (omega (arith, length-drop at text)))
 
   pub next-line : end + 1 ≡ next_line text at
   unfolding next_line
   next-line = ap (λ n. n + 1) long
 
-  line-within : end ≤ length text
+  pub line-within : end ≤ length text
   unfolding line_bytes
   line-within = omega (arith, long, up_to-length 10 (drop at text), length-drop at text)
 
@@ -48,10 +32,9 @@ module _ (text : List ℕ) (at end : ℕ) (h : at ≤ length text) (found : end 
       ap (λ n. take n (drop at text)) size ∙ sym (up_to-take 10 (drop at text))
 
   -- and `to` where its comment begins
-  module _ (to : ℕ) (comment : to ≡ at + index_of 35 (slice at end text)) where
+  module _ (to : ℕ) (comment : to ≡ at + length (up_to 35 (take (end - at) (drop at text)))) where
     content_long : to ≡ at + length (up_to 35 (line_bytes text at))
-    content_long =
-        comment ∙ ap (λ xs. at + index_of 35 xs) (slice-part text at end (omega (arith, long)) line-within ∙ line-part) ∙ ap (λ n. at + n) (index-up_to 35 (line_bytes text at))
+    content_long = comment ∙ ap (λ xs. at + length (up_to 35 xs)) line-part
 
     pub content_part : take (to - at) (drop at text) ≡ up_to 35 (line_bytes text at)
     content_part =

@@ -1,9 +1,9 @@
 // What a text line says: the four forms of a bench text, told from the line's tokens.
 #![tactic(auto)]
 
-ghost use Rattle.std.specs.Prelude.{cond, not, ◌≡◌, ◌+◌, ◌*◌, ◌<◌, ◌≤◌, length};
+ghost use Rattle.std.specs.Prelude.{cond, not, ◌≡◌, ◌+◌, ◌-◌, ◌*◌, ◌<◌, ◌≤◌, length, take, drop};
 ghost use Rattle.lists.specs.Scan.{any_below};
-ghost use Rattle.bench_text.specs.Text.{bytes_of, next_line};
+ghost use Rattle.bench_text.specs.Text.{bytes_of, next_line, up_to};
 ghost use Rattle.bench_text.specs.Sentence.{kind_of, is, is_name, is_call, pin_tokens, is_pin, line_kind, is_head, is_line, gate_sentence, sentence, sentence_from};
 ghost use Rattle.tokens.specs.Kept.{part_of, kept};
 ghost use Rattle.sentences.specs.Line.{TokensKept, Tells};
