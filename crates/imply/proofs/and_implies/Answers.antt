@@ -1,0 +1,5 @@
+use Rattle.imply.proofs.Implied.{shows-implied}
+use Rattle.imply.proofs.and_implies.Goals as goal
+
+pub returns : goal.returns
+returns c = λ t a p o h g k. shows-implied t _ _ a _ _ p _ _ o h g k
