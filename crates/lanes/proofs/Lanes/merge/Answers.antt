@@ -1,0 +1,5 @@
+use Rattle.lanes.proofs.Laws.{shows-merge}
+use Rattle.lanes.proofs.Lanes.merge.Goals as goal
+
+pub returns : goal.returns
+returns c = λ t v f g. shows-merge t _ _ _ _ _ v f g
