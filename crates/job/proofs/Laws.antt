@@ -9,7 +9,8 @@ use Rattle.lists.specs.Scan.{◌else◌}
 use Rattle.lists.proofs.Scan.{else_found, else_assoc}
 use Rattle.model.specs.Inputs.{O, L}
 use Rattle.model.specs.Accepted.{ValidInputs}
-use Rattle.model.specs.Refusals.{Refusal}
+use Rattle.model.specs.Refusals.{Refusal, input_rows}
+use Rattle.model.proofs.Accepted.{valid_inputs}
 use Rattle.rules.specs.Check.{refusal_of}
 use Rattle.rules.specs.declared.Check.{Check}
 use Rattle.job.specs.Job.{job_refusal_of, JobOf, JobChecked, Unless, Limited}
@@ -65,6 +66,10 @@ limited valid of = record {
   outputs = rw of.outputs valid.circuit.outputs;
   units = rw of.units valid.test.most;
 }
+
+-- the same, where the rows of the inputs are passed
+pub ready_limits : {c t : List ℕ} (fs : List ℕ) (least most : ℕ) {r : JobCheck} {j : Job} → JobChecked c t (input_rows c t least most fs) r → r ≡ Ready j → Limited j
+ready_limits fs least most checked e = limited (valid_inputs _ _ _ _ _ (ready-none checked e)) (checked.job _ e)
 
 -- the bytes that row 13 asks for, but for those of the lines
 pub area-limit : {j : Job} → Limited j → j.units * (4 * j.outputs + 16 * j.flops + 8) ≤ 1024 * 5128
