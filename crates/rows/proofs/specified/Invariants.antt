@@ -1,0 +1,12 @@
+-- So many are found specified below s.
+use mathlib.Core.Path.{◌≡◌}
+use Prim.Native.Nat.{◌-◌, ◌≤◌}
+use lib.ListN.{take}
+use Rattle.model.specs.Choose.{size}
+use Rattle.rows.proofs.specified.Given as goal
+
+abbrev pub invariant-loop-s : goal.invariant-loop-s
+invariant-loop-s l = (l.s ≤ l.count) × (l.found ≤ l.s) × (l.found ≡ size (take l.s l.row))
+
+abbrev pub decreases-loop-s : goal.decreases-loop-s
+decreases-loop-s l = l.count - l.s
