@@ -16,6 +16,13 @@ use std::{fs, io};
 // The byte that a test program makes its areas of before a call.
 pub const BLANK: u8 = 165;
 
+// Zeros, as many. The `ensures` gives only the length, which lending a long array as a slice needs.
+pub fn zeros<const N: usize>() -> [u8; N]
+    ensures { N ≡ length result }
+{
+    [0; N]
+}
+
 // Digits that are written at once.
 type Digits = [u8; 4096];
 
