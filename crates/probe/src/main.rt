@@ -1,11 +1,14 @@
 // Makes one call, for tests: call.dat tells which, with which k and with areas of which lengths; circuit.dat, test.dat, faults.dat, plan.dat
 // and verdicts.dat are lent, a missing file as an empty one. Prints what the call answered, the whole result area in hexadecimal, and whether
 // the work area is as it was.
+#![tactic(auto)]
+
 ghost use Rattle.std.specs.Prelude.{◌≤◌};
-ghost use Rattle.io.specs.Counts.{IsPrefixLen};
+ghost use Rattle.printing.specs.Prefix.{IsPrefixLen};
 
 use job::Outcome;
 use printing::BLANK;
+use std::rt::Files;
 
 // How long an area may be.
 const AREA: usize = 196608;
@@ -38,46 +41,54 @@ fn is_call(told: &[u8; 13], size: usize) -> bool {
 }
 
 // A file's bytes, at the start of the area; how many. A file that is longer than the area has a line of its own.
-fn read(name: &[u8], area: &mut [u8]) -> usize
+fn read(rt: &(impl Files + Print + Eprint), name: &str, area: &mut [u8]) -> usize
     ensures { IsPrefixLen result area.new }
 {
-    let file = printing::read_file(name, area);
+    let file = printing::read_file(rt, name, area);
     if file.more {
-        printing::text(b"too long ");
-        printing::text(name);
-        printing::text(b"\n");
+        printing::text(rt, b"too long ");
+        printing::text(rt, name.as_bytes());
+        printing::text(rt, b"\n");
     }
     file.size
 }
 
-fn print_outcome(outcome: Outcome) {
+fn print_outcome(rt: &impl Print, outcome: Outcome) {
     match outcome {
-        Outcome::Done(n) => printing::done(n),
-        Outcome::Refused { rule, at } => printing::refused(rule, at),
+        Outcome::Done(n) => printing::done(rt, n),
+        Outcome::Refused { rule, at } => printing::refused(rt, rule, at),
     }
-    printing::text(b"\n");
+    printing::text(rt, b"\n");
 }
 
 // The result area of this length, 32 bytes a line.
-fn print_result(res: &[u8; AREA], size: usize)
+fn print_result(rt: &impl Print, res: &[u8; AREA], size: usize)
     requires { size ≤ 196608 }
 {
     let area = &res[..];
-    printing::hex(&area[0..size], 32);
+    printing::hex(rt, &area[0..size], 32);
     if 0 < size {
-        printing::text(b"\n");
+        printing::text(rt, b"\n");
     }
 }
 
-fn print_work(work: &[u8; AREA]) {
+fn print_work(rt: &impl Print, work: &[u8; AREA]) {
     if printing::kept(work, BLANK) {
-        printing::text(b"work kept\n");
+        printing::text(rt, b"work kept\n");
     } else {
-        printing::text(b"work used\n");
+        printing::text(rt, b"work used\n");
     }
 }
 
-fn run(call: Call, circuit: &[u8], test: &[u8], faults: &[u8], plan: &[u8], verdicts: &[u8])
+fn run(
+    rt: &impl Print,
+    call: Call,
+    circuit: &[u8],
+    test: &[u8],
+    faults: &[u8],
+    plan: &[u8],
+    verdicts: &[u8],
+)
     requires { (call.room ≤ 196608) × (call.size ≤ 196608) }
 {
     let mut work = [BLANK; AREA];
@@ -95,26 +106,27 @@ fn run(call: Call, circuit: &[u8], test: &[u8], faults: &[u8], plan: &[u8], verd
         &mut work[0..room],
         &mut result[0..size],
     );
-    print_outcome(outcome);
-    print_result(&result, size);
-    print_work(&work);
+    print_outcome(rt, outcome);
+    print_result(rt, &result, size);
+    print_work(rt, &work);
 }
 
 // The call with the files lent.
-fn run_on_files(call: Call)
+fn run_on_files(rt: &(impl Files + Print + Eprint), call: Call)
     requires { (call.room ≤ 196608) × (call.size ≤ 196608) }
 {
-    let mut circuit = [0u8; 65552];
-    let mut test = [0u8; 65552];
-    let mut faults = [0u8; 131088];
-    let mut plan = [0u8; 65552];
-    let mut verdicts = [0u8; 524320];
-    let lines = read(b"circuit.dat", &mut circuit);
-    let units = read(b"test.dat", &mut test);
-    let list = read(b"faults.dat", &mut faults);
-    let pairs = read(b"plan.dat", &mut plan);
-    let records = read(b"verdicts.dat", &mut verdicts);
+    let mut circuit: [u8; 65552] = printing::zeros();
+    let mut test: [u8; 65552] = printing::zeros();
+    let mut faults: [u8; 131088] = printing::zeros();
+    let mut plan: [u8; 65552] = printing::zeros();
+    let mut verdicts: [u8; 524320] = printing::zeros();
+    let lines = read(rt, "circuit.dat", &mut circuit);
+    let units = read(rt, "test.dat", &mut test);
+    let list = read(rt, "faults.dat", &mut faults);
+    let pairs = read(rt, "plan.dat", &mut plan);
+    let records = read(rt, "verdicts.dat", &mut verdicts);
     run(
+        rt,
         call,
         &circuit[..lines],
         &test[..units],
@@ -124,25 +136,25 @@ fn run_on_files(call: Call)
     );
 }
 
-fn bad_call() {
-    printing::text(b"bad call\n");
+fn bad_call(rt: &impl Print) {
+    printing::text(rt, b"bad call\n");
 }
 
-fn main() {
+fn main(rt: HostRuntime) {
     let mut told = [0u8; 13];
-    let file = printing::read_file(b"call.dat", &mut told);
+    let file = printing::read_file(&rt, "call.dat", &mut told);
     if !is_call(&told, file.size) {
-        bad_call();
+        bad_call(&rt);
         return;
     }
     let call = call_of(&told);
     if AREA < call.room {
-        bad_call();
+        bad_call(&rt);
         return;
     }
     if AREA < call.size {
-        bad_call();
+        bad_call(&rt);
         return;
     }
-    run_on_files(call);
+    run_on_files(&rt, call);
 }
