@@ -2,11 +2,9 @@ use mathlib.Core.Path.{◌≡◌, refl}
 use Prim.Native.Nat.{ℕ, ◌+◌, ◌*◌}
 use native.Mathlib.Omega.{arith}
 use Rattle.model.specs.Inputs.{kind, pin_count, output_mark, spare_byte}
-use borrow.Author.Rules.{rules}
-use Rattle.circuit.proofs.field.Statement.{statement}
-use Rattle.circuit.proofs.field.Tie as tie
+use Rattle.circuit.proofs.field.Goals as goal
 
-returns : tie.Need-returns
+pub returns : goal.returns
 unfolding kind pin_count output_mark spare_byte
 returns c = record {
   at = refl;
@@ -15,6 +13,3 @@ returns c = record {
   mark = λ e. rw e;
   spare = λ e. rw e;
 }
-
-pub field-spec : {M : Type 1} → statement M
-field-spec = tie.close (tie.spec (λ c. search rules) (λ c. search rules) (λ c. search rules) returns)
