@@ -1,15 +1,41 @@
 -- Where a text line ends, where its comment begins, and its tokens.
-use mathlib.Core.Path.{◌≡◌, refl, sym, ap, ◌∙◌}
+use mathlib.Core.Path.{◌≡◌, sym, ap, ◌∙◌}
 use mathlib.Core.List.{List}
-use Prim.Native.Nat.{ℕ, ◌+◌, ◌-◌, ◌≤◌}
+use Prim.Native.Nat.{ℕ, ◌+◌, ◌-◌, ◌≤◌, ◌<◌}
+use native.Mathlib.Numerals.{add-one}
+use Rattle.std.proofs.Common.{add-zero}
+use borrow.Author.Tests.{eq-eqb, ne_eqb}
 use native.Mathlib.Omega.{arith}
-use lib.ListN.{length, take, drop, length-drop}
+use lib.ListN.{get_or, length, take, drop, length-drop, length-take}
 use lib.Seq.{take_all, take-take}
 use Rattle.bench_text.specs.Text.{up_to, line_bytes, next_line, line_tokens}
 use Rattle.bench_text.proofs.Tokens.{up_to-take, up_to-length, line-token}
 use Rattle.tokens.specs.Kept.{kept}
-use Rattle.tokens.proofs.Laws.{length-kept, get_or_kept}
+use Rattle.tokens.proofs.Laws.{length-kept, get_or_kept, rest-cons}
 use Rattle.sentences.specs.Line.{TokensKept}
+
+-- from place i on, the first place of a byte before `end`
+module _ (text : List ℕ) (byte i end : ℕ) where
+  abbrev pub first_place : ℕ
+  first_place = i + length (up_to byte (take (end - i) (drop i text)))
+
+  pub place_here : i < end → end ≤ length text → get_or text i 0 ≡ byte → first_place ≡ i
+  unfolding up_to
+  place_here more within e = rw (rest-cons text i end more within, eq-eqb _ _ e, add-zero)
+
+  -- further on
+  pub place_behind : i < end → end ≤ length text → (get_or text i 0 ≡ byte → ⊥) → first_place ≡ i + 1 + length (up_to byte (take (end - (i + 1)) (drop (i + 1) text)))
+  unfolding up_to
+  place_behind more within e = rw (rest-cons text i end more within, ne_eqb _ _ e, add-one i) (omega arith)
+
+  -- nowhere
+  pub place_end : i ≡ end → first_place ≡ end
+  unfolding up_to
+  place_end e = let none : end - i ≡ 0 = omega arith in rw (none, add-zero) e
+
+  pub place_within : i ≤ end → end ≤ length text → first_place ≤ end
+  place_within h within =
+      omega (arith, up_to-length byte (take (end - i) (drop i text)), length-take (end - i) (drop i text), length-drop i text)
 
 -- the line of which `end` is the end
 module _ (text : List ℕ) (at end : ℕ) (h : at ≤ length text) (found : end ≡ at + length (up_to 10 (take (length text - at) (drop at text)))) where

@@ -1,12 +1,11 @@
--- A token as it is kept is the token of the line; and the kinds of keywords, one after the other.
+-- A token as it is kept is the token of the line.
 use mathlib.Core.Path.{◌≡◌, sym, ap, ◌∙◌}
-use mathlib.Core.Bool.{true, false}
-use mathlib.Core.List.{List, [], ◌∷◌}
-use Prim.Native.Nat.{ℕ, suc, ◌+◌, ◌*◌, ◌-◌, ◌/◌, ◌<◌}
+use mathlib.Core.Bool.{true}
+use mathlib.Core.List.{List}
+use Prim.Native.Nat.{ℕ, ◌+◌, ◌*◌, ◌-◌, ◌/◌, ◌<◌}
 use borrow.Author.Tests.{eqb-true}
 use Rattle.lists.proofs.Tests.{and_left}
-use Rattle.bench_text.specs.Text.{same}
-use Rattle.bench_text.specs.Sentence.{kind_from, token, pin_tokens, is_head}
+use Rattle.bench_text.specs.Sentence.{token, pin_tokens, is_head}
 use Rattle.tokens.specs.Kept.{part_of, kept}
 use Rattle.tokens.proofs.Laws.{length-kept, get_or_kept}
 
@@ -25,17 +24,3 @@ head-length text parts count e =
     let n = pin_tokens text (kept parts count) in
     let same = eqb-true _ _ (and_left _ _ (and_left _ _ (and_left _ _ (and_left _ _ (and_left _ _ e))))) in
     sym same ∙ length-kept parts count
-
--- where the word is the first of the keywords
-pub kind-here : (word w : List ℕ) (ws : List (List ℕ)) (k kind : ℕ) → kind ≡ kind_from k (w ∷ ws) word → same word w ≡ true → k ≡ kind
-unfolding kind_from
-kind-here word w ws k kind e s = sym (e ∙ rw s)
-
--- where it is not
-pub kind-behind : (word w : List ℕ) (ws : List (List ℕ)) (k kind : ℕ) → kind ≡ kind_from k (w ∷ ws) word → same word w ≡ false → kind ≡ kind_from (suc k) ws word
-unfolding kind_from
-kind-behind word w ws k kind e s = e ∙ rw s
-
-pub kind-none : (word : List ℕ) (k kind : ℕ) → kind ≡ kind_from k [] word → kind ≡ 0
-unfolding kind_from
-kind-none word k kind e = e
