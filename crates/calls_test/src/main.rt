@@ -1,6 +1,8 @@
 // Makes every call of calls.dat, a line of print for each: what the call answered, the whole result area in hexadecimal, and where the call
 // refused whether the work area is as it was. A call is its number and a zero byte, then in 16 bits each k, the lengths of work area and
 // result area and those of circuit, test, faults, plan and verdicts, and then these five. Both areas hold one byte throughout before the call.
+#![tactic(auto)]
+
 ghost use Rattle.std.specs.Prelude.{◌+◌, ◌<◌, ◌≤◌, length};
 
 use job::Outcome;
@@ -10,33 +12,41 @@ use printing::BLANK;
 const AREA: usize = 65535;
 
 // The result area of this length.
-fn print_result(res: &[u8; AREA], size: usize)
+fn print_result(rt: &impl Print, res: &[u8; AREA], size: usize)
     requires { size ≤ 65535 }
 {
     let area = &res[..];
     if 0 < size {
-        printing::text(b" ");
-        printing::hex(&area[0..size], AREA);
+        printing::text(rt, b" ");
+        printing::hex(rt, &area[0..size], AREA);
     }
 }
 
-fn print_done(n: usize, size: usize, res: &[u8; AREA])
+fn print_done(rt: &impl Print, n: usize, size: usize, res: &[u8; AREA])
     requires { size ≤ 65535 }
 {
-    printing::done(n);
-    print_result(res, size);
-    printing::text(b"\n");
+    printing::done(rt, n);
+    print_result(rt, res, size);
+    printing::text(rt, b"\n");
 }
 
-fn print_refused(rule: u8, at: usize, size: usize, work: &[u8; AREA], res: &[u8; AREA])
+fn print_refused(
+    rt: &impl Print,
+    rule: u8,
+    at: usize,
+    size: usize,
+    work: &[u8; AREA],
+    res: &[u8; AREA],
+)
     requires { size ≤ 65535 }
 {
-    printing::refused(rule, at);
-    print_result(res, size);
-    printing::kept_or_changed(printing::kept(work, BLANK));
+    printing::refused(rt, rule, at);
+    print_result(rt, res, size);
+    printing::kept_or_changed(rt, printing::kept(work, BLANK));
 }
 
 fn run(
+    rt: &impl Print,
     number: u8,
     circuit: &[u8],
     test: &[u8],
@@ -62,13 +72,13 @@ fn run(
         &mut work[0..room],
         &mut result[0..size],
     ) {
-        Outcome::Done(n) => print_done(n, size, &result),
-        Outcome::Refused { rule, at } => print_refused(rule, at, size, &work, &result),
+        Outcome::Done(n) => print_done(rt, n, size, &result),
+        Outcome::Refused { rule, at } => print_refused(rt, rule, at, size, &work, &result),
     }
 }
 
 // The call that begins here; where the next one begins.
-fn run_call(calls: &[u8], at: usize) -> usize
+fn run_call(rt: &impl Print, calls: &[u8], at: usize) -> usize
     requires { at + 18 ≤ length calls.now }
     ensures { (at < result) × (result ≤ length calls.now) }
 {
@@ -83,10 +93,11 @@ fn run_call(calls: &[u8], at: usize) -> usize
     let room = basics::word_at(calls, at + 4);
     let size = basics::word_at(calls, at + 6);
     if calls.len() < end {
-        printing::cut_off();
+        printing::cut_off(rt);
         return calls.len();
     }
     run(
+        rt,
         number,
         &calls[from..test],
         &calls[test..faults],
@@ -100,18 +111,18 @@ fn run_call(calls: &[u8], at: usize) -> usize
     end
 }
 
-fn run_calls(calls: &[u8]) {
+fn run_calls(rt: &impl Print, calls: &[u8]) {
     let mut at: usize = 0;
     while at + 18 <= calls.len() {
-        at = run_call(calls, at);
+        at = run_call(rt, calls, at);
     }
     if at < calls.len() {
-        printing::cut_off();
+        printing::cut_off(rt);
     }
 }
 
-fn main() {
+fn main(rt: HostRuntime) {
     let mut calls = [0u8; 65536];
-    let size = printing::read(b"calls.dat", &mut calls);
-    run_calls(&calls[..size]);
+    let size = printing::read(&rt, "calls.dat", &mut calls);
+    run_calls(&rt, &calls[..size]);
 }
