@@ -2,6 +2,8 @@
 // faults and plan, k, and the bytes of work area and result area, and then the bytes of circuit, test, faults and plan. Both areas hold one
 // byte throughout before the call; `kept` says afterwards that the bytes that must stay have stayed: those of the result area past the
 // records, and where the call refused all of both areas. The records follow, a line each.
+#![tactic(auto)]
+
 ghost use Rattle.std.specs.Prelude.{◌+◌, ◌<◌, ◌≤◌, length};
 
 use job::Outcome;
@@ -13,51 +15,55 @@ const WORK: usize = 131072;
 const RESULT: usize = 8192;
 
 // The nine fields of the record that begins here.
-fn print_record(records: &[u8], at: usize)
+fn print_record(rt: &impl Print, records: &[u8], at: usize)
     requires { at + 16 ≤ length records.now }
 {
-    printing::row(&[
-        basics::wide(records[at]),
-        basics::wide(records[at + 1]),
-        basics::word_at(records, at + 2),
-        basics::word_at(records, at + 4),
-        basics::word_at(records, at + 6),
-        basics::word_at(records, at + 8),
-        basics::word_at(records, at + 10),
-        basics::word_at(records, at + 12),
-        basics::word_at(records, at + 14),
-    ]);
+    printing::row(
+        rt,
+        &[
+            basics::wide(records[at]),
+            basics::wide(records[at + 1]),
+            basics::word_at(records, at + 2),
+            basics::word_at(records, at + 4),
+            basics::word_at(records, at + 6),
+            basics::word_at(records, at + 8),
+            basics::word_at(records, at + 10),
+            basics::word_at(records, at + 12),
+            basics::word_at(records, at + 14),
+        ],
+    );
 }
 
-fn print_records(records: &[u8]) {
+fn print_records(rt: &impl Print, records: &[u8]) {
     let mut at: usize = 0;
     while at + 16 <= records.len() {
-        print_record(records, at);
+        print_record(rt, records, at);
         at += 16;
     }
 }
 
 // The records of an area that was lent with this size.
-fn print_done(n: usize, size: usize, res: &[u8; RESULT])
+fn print_done(rt: &impl Print, n: usize, size: usize, res: &[u8; RESULT])
     requires { size ≤ 8192 }
 {
-    printing::done(n);
+    printing::done(rt, n);
     if size / 16 < n {
-        printing::text(b" TOO MANY\n");
+        printing::text(rt, b" TOO MANY\n");
         return;
     }
     let area = &res[..];
     let end = 16 * n;
-    printing::kept_or_changed(printing::kept(&area[end..], BLANK));
-    print_records(&area[0..end]);
+    printing::kept_or_changed(rt, printing::kept(&area[end..], BLANK));
+    print_records(rt, &area[0..end]);
 }
 
 // Takes the arrays whole, so that nothing is to be shown of their lengths after a part was lent.
-fn print_refused(rule: u8, at: usize, work: &[u8; WORK], res: &[u8; RESULT]) {
-    printing::refused_job(rule, at, work, res);
+fn print_refused(rt: &impl Print, rule: u8, at: usize, work: &[u8; WORK], res: &[u8; RESULT]) {
+    printing::refused_job(rt, rule, at, work, res);
 }
 
 fn run(
+    rt: &impl Print,
     circuit: &[u8],
     test: &[u8],
     faults: &[u8],
@@ -69,11 +75,11 @@ fn run(
     let mut work = [BLANK; WORK];
     let mut result = [BLANK; RESULT];
     if WORK < room {
-        printing::text(b"the work area is too long\n");
+        printing::text(rt, b"the work area is too long\n");
         return;
     }
     if RESULT < size {
-        printing::text(b"the result area is too long\n");
+        printing::text(rt, b"the result area is too long\n");
         return;
     }
     match grade::grade(
@@ -85,13 +91,13 @@ fn run(
         &mut work[0..room],
         &mut result[0..size],
     ) {
-        Outcome::Done(n) => print_done(n, size, &result),
-        Outcome::Refused { rule, at } => print_refused(rule, at, &work, &result),
+        Outcome::Done(n) => print_done(rt, n, size, &result),
+        Outcome::Refused { rule, at } => print_refused(rt, rule, at, &work, &result),
     }
 }
 
 // The job that begins here; where the next one begins.
-fn run_job(jobs: &[u8], at: usize) -> usize
+fn run_job(rt: &impl Print, jobs: &[u8], at: usize) -> usize
     requires { at + 28 ≤ length jobs.now }
     ensures { (at < result) × (result ≤ length jobs.now) }
 {
@@ -104,10 +110,11 @@ fn run_job(jobs: &[u8], at: usize) -> usize
     let room = printing::long_at(jobs, at + 20);
     let size = printing::long_at(jobs, at + 24);
     if jobs.len() < end {
-        printing::cut_off();
+        printing::cut_off(rt);
         return jobs.len();
     }
     run(
+        rt,
         &jobs[from..test],
         &jobs[test..faults],
         &jobs[faults..plan],
@@ -119,18 +126,18 @@ fn run_job(jobs: &[u8], at: usize) -> usize
     end
 }
 
-fn run_jobs(jobs: &[u8]) {
+fn run_jobs(rt: &impl Print, jobs: &[u8]) {
     let mut at: usize = 0;
     while at + 28 <= jobs.len() {
-        at = run_job(jobs, at);
+        at = run_job(rt, jobs, at);
     }
     if at < jobs.len() {
-        printing::cut_off();
+        printing::cut_off(rt);
     }
 }
 
-fn main() {
-    let mut jobs = [0u8; 524288];
-    let size = printing::read(b"jobs.dat", &mut jobs);
-    run_jobs(&jobs[..size]);
+fn main(rt: HostRuntime) {
+    let mut jobs: [u8; 524288] = printing::zeros();
+    let size = printing::read(&rt, "jobs.dat", &mut jobs);
+    run_jobs(&rt, &jobs[..size]);
 }
