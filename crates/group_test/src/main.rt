@@ -1,5 +1,7 @@
 // Calls Group on the records of records.dat and on records made here, and prints under a title what it answered, the entries or, where there are
 // many, a checksum of them, and whether the rest of the result area is as it was. tests/group_jobs.py writes records.dat and what is to be printed.
+#![tactic(auto)]
+
 ghost use Rattle.std.specs.Prelude.{◌≤◌, ◌<◌};
 
 use job::Outcome;
@@ -11,52 +13,52 @@ type Records = [u8; 524304];
 // Room for the entries of as many.
 type Entries = [u8; 65538];
 
-fn print_entries(entries: &[u8]) {
+fn print_entries(rt: &impl Print, entries: &[u8]) {
     let mut at: usize = 0;
     while at + 2 <= entries.len() {
-        printing::text(b" ");
-        printing::number(basics::word_at(entries, at));
+        printing::text(rt, b" ");
+        printing::number(rt, basics::word_at(entries, at));
         at += 2;
     }
 }
 
 // The entries, or of more than a hundred their checksum.
-fn print_some(entries: &[u8]) {
+fn print_some(rt: &impl Print, entries: &[u8]) {
     if entries.len() <= 200 {
-        print_entries(entries);
+        print_entries(rt, entries);
     } else {
-        printing::text(b" checksum ");
-        printing::number(printing::checksum(entries));
+        printing::text(rt, b" checksum ");
+        printing::number(rt, printing::checksum(entries));
     }
 }
 
-fn print_done(n: usize, res: &Entries) {
-    printing::done(n);
+fn print_done(rt: &impl Print, n: usize, res: &Entries) {
+    printing::done(rt, n);
     if 32769 < n {
-        printing::text(b" TOO MANY\n");
+        printing::text(rt, b" TOO MANY\n");
         return;
     }
     let area = &res[..];
     let end = 2 * n;
-    print_some(&area[0..end]);
-    printing::kept_or_changed(printing::kept(&area[end..], BLANK));
+    print_some(rt, &area[0..end]);
+    printing::kept_or_changed(rt, printing::kept(&area[end..], BLANK));
 }
 
-fn print_refused(rule: u8, at: usize, res: &Entries) {
-    printing::refused(rule, at);
-    printing::kept_or_changed(printing::kept(res, BLANK));
+fn print_refused(rt: &impl Print, rule: u8, at: usize, res: &Entries) {
+    printing::refused(rt, rule, at);
+    printing::kept_or_changed(rt, printing::kept(res, BLANK));
 }
 
 // The call with a result area of this size.
-fn run(title: &[u8], records: &[u8], size: usize)
+fn run(rt: &impl Print, title: &[u8], records: &[u8], size: usize)
     requires { size ≤ 65538 }
 {
     let mut result = [BLANK; 65538];
-    printing::text(title);
-    printing::text(b": ");
+    printing::text(rt, title);
+    printing::text(rt, b": ");
     match group::group(records, &mut result[0..size]) {
-        Outcome::Done(n) => print_done(n, &result),
-        Outcome::Refused { rule, at } => print_refused(rule, at, &result),
+        Outcome::Done(n) => print_done(rt, n, &result),
+        Outcome::Refused { rule, at } => print_refused(rt, rule, at, &result),
     }
 }
 
@@ -76,57 +78,55 @@ fn put_record(area: &mut Records, j: usize, key: usize)
 fn fill(area: &mut Records, keys: usize)
     requires { 0 < keys }
 {
-    let mut j: usize = 0;
-    while j < 32769 {
+    for j in 0..32769 {
         put_record(area, j, j % keys);
-        j += 1;
     }
 }
 
 // So many bytes of the records.
-fn run_part(title: &[u8], area: &Records, bytes: usize, size: usize)
+fn run_part(rt: &impl Print, title: &[u8], area: &Records, bytes: usize, size: usize)
     requires { (bytes ≤ 524304) × (size ≤ 65538) }
 {
     let records = &area[..];
-    run(title, &records[0..bytes], size);
+    run(rt, title, &records[0..bytes], size);
 }
 
 // Few bytes and many, of records that have so many keys.
-fn run_keys(keys: usize)
+fn run_keys(rt: &impl Print, keys: usize)
     requires { 0 < keys }
 {
-    let mut area = [0u8; 524304];
+    let mut area: Records = printing::zeros();
     fill(&mut area, keys);
-    printing::number(keys);
-    printing::text(b" keys\n");
-    run_part(b"one record", &area, 16, 2);
-    run_part(b"40 records", &area, 640, 65538);
-    run_part(b"32767 records", &area, 524272, 65538);
-    run_part(b"32768 records", &area, 524288, 65536);
+    printing::number(rt, keys);
+    printing::text(rt, b" keys\n");
+    run_part(rt, b"one record", &area, 16, 2);
+    run_part(rt, b"40 records", &area, 640, 65538);
+    run_part(rt, b"32767 records", &area, 524272, 65538);
+    run_part(rt, b"32768 records", &area, 524288, 65536);
 }
 
 // Areas that are refused, and the shortest.
-fn run_edges() {
-    let area = [0u8; 524304];
-    run_part(b"no record", &area, 0, 0);
-    run_part(b"a byte", &area, 1, 65538);
-    run_part(b"15 bytes", &area, 15, 65538);
-    run_part(b"17 bytes", &area, 17, 65538);
-    run_part(b"32769 records", &area, 524304, 65538);
-    run_part(b"32768 records and a byte", &area, 524289, 65538);
-    run_part(b"32769 records, no result area", &area, 524304, 0);
-    run_part(b"one record, a byte short", &area, 16, 1);
-    run_part(b"40 records, a byte short", &area, 640, 79);
-    run_part(b"32768 records, a byte short", &area, 524288, 65535);
+fn run_edges(rt: &impl Print) {
+    let area: Records = printing::zeros();
+    run_part(rt, b"no record", &area, 0, 0);
+    run_part(rt, b"a byte", &area, 1, 65538);
+    run_part(rt, b"15 bytes", &area, 15, 65538);
+    run_part(rt, b"17 bytes", &area, 17, 65538);
+    run_part(rt, b"32769 records", &area, 524304, 65538);
+    run_part(rt, b"32768 records and a byte", &area, 524289, 65538);
+    run_part(rt, b"32769 records, no result area", &area, 524304, 0);
+    run_part(rt, b"one record, a byte short", &area, 16, 1);
+    run_part(rt, b"40 records, a byte short", &area, 640, 79);
+    run_part(rt, b"32768 records, a byte short", &area, 524288, 65535);
 }
 
-fn main() {
+fn main(rt: HostRuntime) {
     let mut records = [0u8; 4096];
-    let size = printing::read(b"records.dat", &mut records);
-    run(b"records.dat", &records[..size], 65538);
-    run_edges();
-    run_keys(1);
-    run_keys(9);
-    run_keys(1000);
-    run_keys(32769);
+    let size = printing::read(&rt, "records.dat", &mut records);
+    run(&rt, b"records.dat", &records[..size], 65538);
+    run_edges(&rt);
+    run_keys(&rt, 1);
+    run_keys(&rt, 9);
+    run_keys(&rt, 1000);
+    run_keys(&rt, 32769);
 }
