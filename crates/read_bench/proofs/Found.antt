@@ -1,5 +1,5 @@
 -- What is found of a text: that it is refused, or its lines.
-use mathlib.Core.Path.{◌≡◌, refl, sym, ◌∙◌}
+use mathlib.Core.Path.{◌≡◌, refl, sym, ap, ◌∙◌}
 use mathlib.Core.Bool.{Bool, true, false, not, ◌||◌}
 use mathlib.Core.List.{List}
 use mathlib.Core.Option.{none, some, or_else}
@@ -16,9 +16,19 @@ use Rattle.bench_text.specs.Sentence.{no_part}
 use Rattle.bench_text.specs.Bench.{line_count, text_rows, bench_records, text_refusal, read_refusal, name_at, part_unless, name_part, name_of}
 use Rattle.bench_text.proofs.Records.{length-records}
 use Rattle.job.specs.declared.Outcome.{Outcome}
+use Rattle.job.specs.declared.Outcome.TheVariants.{Done, Refused}
 use Rattle.job.specs.Job.{answer_of}
 use Rattle.lookup.specs.Lookup.{Held}
 use Rattle.read_bench.specs.Noted.{Inspected}
+
+-- what an answer that is one of the two cases stands for
+pub done-told : {r : Outcome} {n : ℕ} → r ≡ Done n → answer_of r ≡ done n
+unfolding answer_of
+done-told e = ap answer_of e
+
+pub refused-told : {r : Outcome} {rule at : ℕ} → r ≡ Refused rule at → answer_of r ≡ refused rule at
+unfolding answer_of
+refused-told e = ap answer_of e
 
 refused-done : (rule at n : ℕ) → refused rule at ≡ done n → ⊥
 refused-done rule at n e = let z : ◌≡◌ {A = ℕ} 0 1 = cc in (let w : ⊥ = omega arith in w)
