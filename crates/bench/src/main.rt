@@ -8,26 +8,26 @@ use job::Outcome;
 use read_bench::RECORDS;
 
 // The records that stand at the beginning of the area.
-fn write(rt: &(impl Print + Eprint), records: &[u8; RECORDS], count: usize)
+fn write(rt: &HostRuntime, records: &[u8; RECORDS], count: usize)
     requires { 12 * count ≤ 49152 }
 {
     let area = &records[..];
     let size = 12 * count;
-    printing::deliver(rt, &area[0..size], "bench: cannot write the circuit\n");
+    printing::deliver(rt, &area[0..size], b"bench: cannot write the circuit\n");
 }
 
 // The circuit of the text, or why there is none.
-fn convert(rt: &(impl Print + Eprint), text: &[u8]) {
+fn convert(rt: &HostRuntime, text: &[u8]) {
     let mut records = [0u8; RECORDS];
     match read_bench::read_bench(text, &mut records) {
-        Outcome::Refused { rule, at } => bench_file::tell_refused(rt, "bench", rule, at),
+        Outcome::Refused { rule, at } => bench_file::tell_refused(rt, b"bench", rule, at),
         Outcome::Done(count) => write(rt, &records, count),
     }
 }
 
 fn main(rt: HostRuntime) {
     let mut area = bench_file::area();
-    let text = bench_file::read_text(&rt, "bench", "the records of a circuit", &mut area);
+    let text = bench_file::read_text(&rt, b"bench", b"the records of a circuit", &mut area);
     if !text.whole {
         return;
     }

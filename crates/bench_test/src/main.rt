@@ -106,6 +106,6 @@ fn run_texts(rt: &impl Print, texts: &[u8]) {
 
 fn main(rt: HostRuntime) {
     let mut texts = bench_file::area();
-    let size = printing::read(&rt, "texts.dat", &mut texts);
+    let size = printing::read(&rt, b"texts.dat", &mut texts);
     run_texts(&rt, &texts[..size]);
 }

@@ -123,6 +123,6 @@ fn run_calls(rt: &impl Print, calls: &[u8]) {
 
 fn main(rt: HostRuntime) {
     let mut calls = [0u8; 65536];
-    let size = printing::read(&rt, "calls.dat", &mut calls);
+    let size = printing::read(&rt, b"calls.dat", &mut calls);
     run_calls(&rt, &calls[..size]);
 }

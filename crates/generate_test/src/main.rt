@@ -88,7 +88,7 @@ fn period(seed: u16) -> usize
 
 fn main(rt: HostRuntime) {
     let mut jobs = [0u8; 65536];
-    let size = printing::read(&rt, "jobs.dat", &mut jobs);
+    let size = printing::read(&rt, b"jobs.dat", &mut jobs);
     run_jobs(&rt, &jobs[..size]);
     printing::text(&rt, b"periods ");
     printing::row(&rt, &[period(1), period(0xace1), period(65535)]);

@@ -8,16 +8,16 @@ ghost use Rattle.listing.specs.Print.{PrintRoom};
 use listing::Longer;
 
 // The list that stands at the beginning of the print.
-fn write(rt: &(impl Print + Eprint), out: &[u8], size: usize)
+fn write(rt: &HostRuntime, out: &[u8], size: usize)
     requires { size ≤ length out.now }
 {
-    printing::deliver(rt, &out[..size], "grader: cannot write the list\n");
+    printing::deliver(rt, &out[..size], b"grader: cannot write the list\n");
 }
 
 // Makes the list of the four files in a print that is lent, and writes it. Three functions lend one, each for so many faults at most: all pages
 // of an array are touched when its function is called, and in a job of a few lines these are most of the time.
 fn list(
-    rt: &(impl Print + Eprint),
+    rt: &HostRuntime,
     circuit: &[u8],
     test: &[u8],
     faults: &[u8],
@@ -46,7 +46,7 @@ fn list(
 
 // A print for 56 faults.
 fn list_short(
-    rt: &(impl Print + Eprint),
+    rt: &HostRuntime,
     circuit: &[u8],
     test: &[u8],
     faults: &[u8],
@@ -61,7 +61,7 @@ fn list_short(
 
 // A print for 909 faults.
 fn list_medium(
-    rt: &(impl Print + Eprint),
+    rt: &HostRuntime,
     circuit: &[u8],
     test: &[u8],
     faults: &[u8],
@@ -76,7 +76,7 @@ fn list_medium(
 
 // A print for as many faults as have records.
 fn list_long(
-    rt: &(impl Print + Eprint),
+    rt: &HostRuntime,
     circuit: &[u8],
     test: &[u8],
     faults: &[u8],
@@ -92,19 +92,19 @@ fn main(rt: HostRuntime) {
     let mut test = [0u8; 65536];
     let mut faults = [0u8; 65536];
     let mut plan = [0u8; 65536];
-    let c = printing::read_file(&rt, "circuit.dat", &mut circuit);
+    let c = printing::read_file(&rt, b"circuit.dat", &mut circuit);
     if c.failed {
         return;
     }
-    let t = printing::read_file(&rt, "test.dat", &mut test);
+    let t = printing::read_file(&rt, b"test.dat", &mut test);
     if t.failed {
         return;
     }
-    let f = printing::read_file(&rt, "faults.dat", &mut faults);
+    let f = printing::read_file(&rt, b"faults.dat", &mut faults);
     if f.failed {
         return;
     }
-    let p = printing::read_file(&rt, "plan.dat", &mut plan);
+    let p = printing::read_file(&rt, b"plan.dat", &mut plan);
     if p.failed {
         return;
     }

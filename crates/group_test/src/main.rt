@@ -122,7 +122,7 @@ fn run_edges(rt: &impl Print) {
 
 fn main(rt: HostRuntime) {
     let mut records = [0u8; 4096];
-    let size = printing::read(&rt, "records.dat", &mut records);
+    let size = printing::read(&rt, b"records.dat", &mut records);
     run(&rt, b"records.dat", &records[..size], 65538);
     run_edges(&rt);
     run_keys(&rt, 1);

@@ -45,21 +45,21 @@ fn put_names(out: &mut [u8], text: &[u8], names: &[usize], count: usize) -> usiz
     at
 }
 
-fn write(rt: &(impl Print + Eprint), text: &[u8], names: &[usize; NAMES], count: usize)
+fn write(rt: &HostRuntime, text: &[u8], names: &[usize; NAMES], count: usize)
     requires { Named text.now names.now count }
 {
     let mut out = [0u8; PRINT];
     let size = put_names(&mut out, text, names, count);
-    printing::deliver(rt, &out[..size], "names: cannot write the names\n");
+    printing::deliver(rt, &out[..size], b"names: cannot write the names\n");
 }
 
 // The names of the text's lines, or why there are none.
-fn list(rt: &(impl Print + Eprint), text: &[u8]) {
+fn list(rt: &HostRuntime, text: &[u8]) {
     let mut names = [0usize; NAMES];
     let mut heads = [0usize; HEADS];
     let mut records = [0u8; RECORDS];
     match read_bench::inspect(text, &mut names, &mut heads, &mut records) {
-        Outcome::Refused { rule, at } => bench_file::tell_refused(rt, "names", rule, at),
+        Outcome::Refused { rule, at } => bench_file::tell_refused(rt, b"names", rule, at),
         Outcome::Done(count) => write(rt, text, &names, count),
     }
 }
@@ -68,8 +68,8 @@ fn main(rt: HostRuntime) {
     let mut area = bench_file::area();
     let text = bench_file::read_text(
         &rt,
-        "names",
-        "the number and the name of each line of a circuit",
+        b"names",
+        b"the number and the name of each line of a circuit",
         &mut area,
     );
     if !text.whole {

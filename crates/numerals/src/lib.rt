@@ -5,7 +5,7 @@ ghost use Rattle.std.specs.Prelude.{◌≡◌, ◌≤◌, min, length, drop};
 ghost use Rattle.numerals.specs.Numeral.{between, digit_of, with_digits, is_hex, numeral, capped, number_of};
 
 // A number up to 65,536, which stands for every higher one too; or that the text is none.
-#[derive(Drop)]
+#[derive(Clone, Copy)]
 pub enum Numeral {
     Wrong,
     Number(usize),

@@ -32,16 +32,16 @@ pub fn text(rt: &impl Print, bytes: &[u8]) {
 }
 
 // Bytes that are all a program has to write; where they cannot be written, standard error says so.
-pub fn deliver(rt: &(impl Print + Eprint), bytes: &[u8], failure: &str) {
+pub fn deliver(rt: &HostRuntime, bytes: &[u8], failure: &[u8]) {
     let done = rt.write_all(bytes).is_ok();
     if !done {
         tell(rt, failure);
     }
 }
 
-// Text as it is, on standard error.
-pub fn tell(rt: &impl Eprint, words: &str) {
-    let _ = rt.eprint(words);
+// Bytes as they are, on standard error.
+pub fn tell(rt: &HostRuntime, bytes: &[u8]) {
+    let _ = rt.stderr().write_all(bytes);
 }
 
 // A number, in decimal.
@@ -50,7 +50,7 @@ pub fn number(rt: &impl Print, n: usize) {
 }
 
 // The same on standard error.
-pub fn tell_number(rt: &impl Eprint, n: usize) {
+pub fn tell_number(rt: &HostRuntime, n: usize) {
     let _ = rt.eprint(n);
 }
 
@@ -207,12 +207,12 @@ fn reason(words: &str) -> &str {
 }
 
 // A line on standard error: what failed, and why in the system's words.
-pub fn tell_error(rt: &impl Eprint, what: &str, error: &io::Error) {
+pub fn tell_error(rt: &HostRuntime, what: &[u8], error: &io::Error) {
     let words = InlineText::<256>::of(*error);
     tell(rt, what);
-    tell(rt, ": ");
-    tell(rt, reason(words.as_str()));
-    tell(rt, "\n");
+    tell(rt, b": ");
+    tell(rt, reason(words.as_str()).as_bytes());
+    tell(rt, b"\n");
 }
 
 // Puts what the file gives at the start of the area, until the area is full, the file ends or a read fails; how many bytes.
@@ -230,12 +230,20 @@ fn fill(file: &mut impl Read, area: &mut [u8]) -> usize
     done
 }
 
+// The file of this name. The system's library takes text for a path, so a name that is no text names no file.
+fn open<R: Files>(rt: &R, name: &[u8]) -> io::Result<R::File> {
+    match std::str::from_utf8(name) {
+        Ok(name) => fs::open(rt, name),
+        Err(_) => Err(io::Error::from(ErrorKind::InvalidInput)),
+    }
+}
+
 // Puts the file's bytes at the start of the area, as many as there is room for; how many. A file that cannot be opened has none, and is
 // named on standard error with the reason.
-pub fn read(rt: &(impl Files + Eprint), name: &str, area: &mut [u8]) -> usize
+pub fn read(rt: &HostRuntime, name: &[u8], area: &mut [u8]) -> usize
     ensures { IsPrefixLen result area.new }
 {
-    match fs::open(rt, name) {
+    match open(rt, name) {
         Ok(mut file) => fill(&mut file, area),
         Err(e) => {
             tell_error(rt, name, &e);
@@ -245,7 +253,7 @@ pub fn read(rt: &(impl Files + Eprint), name: &str, area: &mut [u8]) -> usize
 }
 
 // What was read of a file: so many bytes, and whether there are more behind them; or that there is no such file, or that it cannot be read.
-#[derive(Drop)]
+#[derive(Clone, Copy)]
 pub struct Input {
     pub size: usize,
     pub more: bool,
@@ -254,7 +262,7 @@ pub struct Input {
 }
 
 // A file that was not opened: there is none, or standard error says why not.
-fn unopened(rt: &impl Eprint, name: &str, error: &io::Error) -> Input
+fn unopened(rt: &HostRuntime, name: &[u8], error: &io::Error) -> Input
     ensures { result.size ≡ 0 }
 {
     let missing = error.kind() == ErrorKind::NotFound;
@@ -271,7 +279,7 @@ fn unopened(rt: &impl Eprint, name: &str, error: &io::Error) -> Input
 
 // Whether the file was not read as far as it should be, which standard error then says: by what the read of one byte more answered, and
 // whether the area was full before it.
-fn cut_short(rt: &impl Eprint, name: &str, next: io::Result<usize>, full: bool) -> bool {
+fn cut_short(rt: &HostRuntime, name: &[u8], next: io::Result<usize>, full: bool) -> bool {
     match next {
         Err(e) => {
             tell_error(rt, name, &e);
@@ -283,14 +291,14 @@ fn cut_short(rt: &impl Eprint, name: &str, next: io::Result<usize>, full: bool) 
                 return false;
             }
             tell(rt, name);
-            tell(rt, ": not read to its end\n");
+            tell(rt, b": not read to its end\n");
             true
         }
     }
 }
 
 // Puts the bytes of an open file at the start of the area, as many as there is room for, and looks for one more.
-fn read_open(rt: &impl Eprint, name: &str, file: &mut impl Read, area: &mut [u8]) -> Input
+fn read_open(rt: &HostRuntime, name: &[u8], file: &mut impl Read, area: &mut [u8]) -> Input
     ensures { IsPrefixLen result.size area.new }
 {
     let size = fill(file, area);
@@ -310,10 +318,10 @@ fn read_open(rt: &impl Eprint, name: &str, file: &mut impl Read, area: &mut [u8]
 
 // Puts the file's bytes at the start of the area, as many as there is room for, and looks for one more. A missing file is empty; one that
 // is there and cannot be read is named on standard error with the reason.
-pub fn read_file(rt: &(impl Files + Eprint), name: &str, area: &mut [u8]) -> Input
+pub fn read_file(rt: &HostRuntime, name: &[u8], area: &mut [u8]) -> Input
     ensures { IsPrefixLen result.size area.new }
 {
-    match fs::open(rt, name) {
+    match open(rt, name) {
         Ok(mut file) => read_open(rt, name, &mut file, area),
         Err(e) => unopened(rt, name, &e),
     }

@@ -8,13 +8,12 @@ ghost use Rattle.printing.specs.Prefix.{IsPrefixLen};
 
 use job::Outcome;
 use printing::BLANK;
-use std::rt::Files;
 
 // How long an area may be.
 const AREA: usize = 196608;
 
 // What call.dat tells.
-#[derive(Drop)]
+#[derive(Clone, Copy)]
 struct Call {
     number: u8,
     k: usize,
@@ -41,7 +40,7 @@ fn is_call(told: &[u8; 13], size: usize) -> bool {
 }
 
 // A file's bytes, at the start of the area; how many. A file that is longer than the area has a line of its own.
-fn read(rt: &(impl Files + Print + Eprint), name: &str, area: &mut [u8]) -> usize
+fn read(rt: &HostRuntime, name: &[u8], area: &mut [u8]) -> usize
     ensures { IsPrefixLen result area.new }
 {
     let file = printing::read_file(rt, name, area);
@@ -112,7 +111,7 @@ fn run(
 }
 
 // The call with the files lent.
-fn run_on_files(rt: &(impl Files + Print + Eprint), call: Call)
+fn run_on_files(rt: &HostRuntime, call: Call)
     requires { (call.room ≤ 196608) × (call.size ≤ 196608) }
 {
     let mut circuit: [u8; 65552] = printing::zeros();
@@ -120,11 +119,11 @@ fn run_on_files(rt: &(impl Files + Print + Eprint), call: Call)
     let mut faults: [u8; 131088] = printing::zeros();
     let mut plan: [u8; 65552] = printing::zeros();
     let mut verdicts: [u8; 524320] = printing::zeros();
-    let lines = read(rt, "circuit.dat", &mut circuit);
-    let units = read(rt, "test.dat", &mut test);
-    let list = read(rt, "faults.dat", &mut faults);
-    let pairs = read(rt, "plan.dat", &mut plan);
-    let records = read(rt, "verdicts.dat", &mut verdicts);
+    let lines = read(rt, b"circuit.dat", &mut circuit);
+    let units = read(rt, b"test.dat", &mut test);
+    let list = read(rt, b"faults.dat", &mut faults);
+    let pairs = read(rt, b"plan.dat", &mut plan);
+    let records = read(rt, b"verdicts.dat", &mut verdicts);
     run(
         rt,
         call,
@@ -142,7 +141,7 @@ fn bad_call(rt: &impl Print) {
 
 fn main(rt: HostRuntime) {
     let mut told = [0u8; 13];
-    let file = printing::read_file(&rt, "call.dat", &mut told);
+    let file = printing::read_file(&rt, b"call.dat", &mut told);
     if !is_call(&told, file.size) {
         bad_call(&rt);
         return;

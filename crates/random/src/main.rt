@@ -7,65 +7,64 @@ ghost use Rattle.std.specs.Prelude.{◌≤◌};
 use job::Outcome;
 use numerals::Numeral;
 use printing::tell;
-use std::rt::{Env, Files};
 
 // As long as the longest test.dat that `grader` reads.
 const TEST: usize = 65536;
 
 // What is wrong with a record of the circuit.
-fn tell_record(rt: &impl Eprint, at: usize, what: &str) {
-    tell(rt, "record ");
+fn tell_record(rt: &HostRuntime, at: usize, what: &[u8]) {
+    tell(rt, b"record ");
     printing::tell_number(rt, at);
-    tell(rt, " of circuit.dat, counted from 0, has ");
+    tell(rt, b" of circuit.dat, counted from 0, has ");
     tell(rt, what);
 }
 
 // What a row of the table of refusals says.
-fn tell_rule(rt: &impl Eprint, rule: u8, at: usize) {
+fn tell_rule(rt: &HostRuntime, rule: u8, at: usize) {
     match rule {
         1 => tell(
             rt,
-            "circuit.dat is empty, not whole records of 12 bytes, or above 49152 bytes",
+            b"circuit.dat is empty, not whole records of 12 bytes, or above 49152 bytes",
         ),
-        2 => tell_record(rt, at, "a kind above 9"),
-        3 => tell_record(rt, at, "a pin count wrong for its kind"),
-        4 => tell_record(rt, at, "byte 2 above 1, or byte 3 or an unused pin not 0"),
-        5 => tell_record(rt, at, "a pin that names a line it must not"),
+        2 => tell_record(rt, at, b"a kind above 9"),
+        3 => tell_record(rt, at, b"a pin count wrong for its kind"),
+        4 => tell_record(rt, at, b"byte 2 above 1, or byte 3 or an unused pin not 0"),
+        5 => tell_record(rt, at, b"a pin that names a line it must not"),
         6 => tell(
             rt,
-            "no input or no output, or above 256 inputs, flip-flops or outputs in circuit.dat",
+            b"no input or no output, or above 256 inputs, flip-flops or outputs in circuit.dat",
         ),
         14 => tell(
             rt,
-            "the test is longer than the 65536 bytes that grader reads",
+            b"the test is longer than the 65536 bytes that grader reads",
         ),
-        16 => tell(rt, "the seed is 0"),
-        17 => tell(rt, "the time units are 0 or above 1024"),
-        _ => tell(rt, "a rule that this program does not know"),
+        16 => tell(rt, b"the seed is 0"),
+        17 => tell(rt, b"the time units are 0 or above 1024"),
+        _ => tell(rt, b"a rule that this program does not know"),
     }
 }
 
 // Number and position, and the rule in words.
-fn tell_refused(rt: &impl Eprint, rule: u8, at: usize) {
-    tell(rt, "random: refused ");
+fn tell_refused(rt: &HostRuntime, rule: u8, at: usize) {
+    tell(rt, b"random: refused ");
     printing::tell_number(rt, basics::wide(rule));
-    tell(rt, " ");
+    tell(rt, b" ");
     printing::tell_number(rt, at);
-    tell(rt, ": ");
+    tell(rt, b": ");
     tell_rule(rt, rule, at);
-    tell(rt, "\n");
+    tell(rt, b"\n");
 }
 
 // The test that stands at the beginning of the area.
-fn write(rt: &(impl Print + Eprint), test: &[u8; TEST], size: usize)
+fn write(rt: &HostRuntime, test: &[u8; TEST], size: usize)
     requires { size ≤ 65536 }
 {
     let area = &test[..];
-    printing::deliver(rt, &area[0..size], "random: cannot write the test\n");
+    printing::deliver(rt, &area[0..size], b"random: cannot write the test\n");
 }
 
 // The circuit's test, or why there is none.
-fn make(rt: &(impl Print + Eprint), circuit: &[u8], seed: u16, units: usize) {
+fn make(rt: &HostRuntime, circuit: &[u8], seed: u16, units: usize) {
     let mut test = [0u8; TEST];
     match generate::generate(circuit, seed, units, &mut test) {
         Outcome::Refused { rule, at } => tell_refused(rt, rule, at),
@@ -74,11 +73,11 @@ fn make(rt: &(impl Print + Eprint), circuit: &[u8], seed: u16, units: usize) {
 }
 
 // The same of the circuit in circuit.dat. A file that is longer than the area is refused by rule 1 as the whole of it would be.
-fn make_for_file(rt: &(impl Print + Eprint + Files), seed: u16, units: usize) {
+fn make_for_file(rt: &HostRuntime, seed: u16, units: usize) {
     let mut circuit = [0u8; 65536];
-    let file = printing::read_file(rt, "circuit.dat", &mut circuit);
+    let file = printing::read_file(rt, b"circuit.dat", &mut circuit);
     if file.missing {
-        tell(rt, "random: there is no file circuit.dat in this folder\n");
+        tell(rt, b"random: there is no file circuit.dat in this folder\n");
         return;
     }
     if file.failed {
@@ -98,38 +97,38 @@ fn argument(rt: &impl Env, i: usize) -> Numeral {
 }
 
 // An argument that is no number of its range.
-fn bad(rt: &impl Eprint, range: &str) {
-    tell(rt, "random: ");
+fn bad(rt: &HostRuntime, range: &[u8]) {
+    tell(rt, b"random: ");
     tell(rt, range);
-    tell(rt, ", in decimal or as 0x and hexadecimal digits\n");
+    tell(rt, b", in decimal or as 0x and hexadecimal digits\n");
 }
 
-fn bad_seed(rt: &impl Eprint) {
-    bad(rt, "the seed is not a number from 1 to 65535");
+fn bad_seed(rt: &HostRuntime) {
+    bad(rt, b"the seed is not a number from 1 to 65535");
 }
 
 // The time units, of a seed that is told.
-fn with_seed(rt: &(impl Print + Eprint + Files + Env), seed: u16) {
+fn with_seed(rt: &HostRuntime, seed: u16) {
     match argument(rt, 2) {
-        Numeral::Wrong => bad(rt, "the time units are not a number from 1 to 1024"),
+        Numeral::Wrong => bad(rt, b"the time units are not a number from 1 to 1024"),
         Numeral::Number(units) => make_for_file(rt, seed, units),
     }
 }
 
-fn usage(rt: &impl Eprint) {
-    tell(rt, "usage: random SEED UNITS\n");
+fn usage(rt: &HostRuntime) {
+    tell(rt, b"usage: random SEED UNITS\n");
     tell(
         rt,
-        "writes a test of UNITS time units, 1 to 1024, for the circuit in circuit.dat to standard output\n",
+        b"writes a test of UNITS time units, 1 to 1024, for the circuit in circuit.dat to standard output\n",
     );
     tell(
         rt,
-        "SEED is 1 to 65535; each is in decimal or 0x and hexadecimal digits\n",
+        b"SEED is 1 to 65535; each is in decimal or 0x and hexadecimal digits\n",
     );
 }
 
 // The test that the two arguments tell.
-fn run(rt: &(impl Print + Eprint + Files + Env)) {
+fn run(rt: &HostRuntime) {
     match argument(rt, 1) {
         Numeral::Wrong => bad_seed(rt),
         Numeral::Number(seed) => {

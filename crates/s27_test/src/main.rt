@@ -118,8 +118,8 @@ fn main(rt: HostRuntime) {
     let mut circuit = [0u8; 1024];
     let mut test = [0u8; 1024];
     let mut faults = [0u8; 1024];
-    let lines = printing::read(&rt, "circuit.dat", &mut circuit);
-    let units = printing::read(&rt, "test.dat", &mut test);
-    let count = printing::read(&rt, "faults.dat", &mut faults);
+    let lines = printing::read(&rt, b"circuit.dat", &mut circuit);
+    let units = printing::read(&rt, b"test.dat", &mut test);
+    let count = printing::read(&rt, b"faults.dat", &mut faults);
     run(&rt, &circuit[..lines], &test[..units], &faults[..count]);
 }

@@ -89,6 +89,6 @@ fn run_jobs(rt: &impl Print, jobs: &[u8]) {
 
 fn main(rt: HostRuntime) {
     let mut jobs: [u8; 262144] = printing::zeros();
-    let size = printing::read(&rt, "jobs.dat", &mut jobs);
+    let size = printing::read(&rt, b"jobs.dat", &mut jobs);
     run_jobs(&rt, &jobs[..size]);
 }

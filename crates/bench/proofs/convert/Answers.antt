@@ -6,6 +6,6 @@ use Rattle.bench.proofs.convert.Goals as goal
 
 pub write-requires : goal.write-requires
 unfolding answer_of
-write-requires g c =
+write-requires c =
     let well_read = c.in-Done.ensures.promise _ refl in
     omega (arith, (valid_circuit _ well_read.accepted).lines, well_read.size)

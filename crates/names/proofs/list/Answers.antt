@@ -6,8 +6,8 @@ use Rattle.names.proofs.Laws.{accepted-named}
 use Rattle.names.proofs.list.Goals as goal
 
 pub inspect-requires : goal.inspect-requires
-inspect-requires g c = (none-held _, refl)
+inspect-requires c = (none-held _, refl)
 
 pub write-requires : goal.write-requires
 unfolding answer_of
-write-requires g c = accepted-named c.in-Done.ensures refl
+write-requires c = accepted-named c.in-Done.ensures refl
