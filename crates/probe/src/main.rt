@@ -46,7 +46,7 @@ fn read(rt: &HostRuntime, name: &[u8], area: &mut [u8]) -> usize
     let file = printing::read_file(rt, name, area);
     if file.more {
         printing::text(rt, b"too long ");
-        printing::text(rt, name.as_bytes());
+        printing::text(rt, name);
         printing::text(rt, b"\n");
     }
     file.size

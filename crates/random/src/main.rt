@@ -88,7 +88,7 @@ fn make_for_file(rt: &HostRuntime, seed: u16, units: usize) {
 }
 
 // The number that an argument gives.
-fn argument(rt: &impl Env, i: usize) -> Numeral {
+fn argument(rt: &HostRuntime, i: usize) -> Numeral {
     let mut text = [0u8; 4096];
     match printing::argument(rt, i, &mut text) {
         Ok(size) => numerals::number_in(&text[..size]),
