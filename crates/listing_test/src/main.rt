@@ -293,7 +293,7 @@ fn with_plan(rt: &impl Print) {
 fn main(rt: HostRuntime) {
     list_a(&rt, b"specimen A", &TEST, &FAULTS, b"");
     with_plan(&rt);
-    list_whole(&rt, b"no files", b"b", b"b", b"b", b"");
+    list_whole(&rt, b"no files", b"", b"", b"", b"");
     too_long(&rt);
     full_files(&rt);
     refused_places(&rt);
