@@ -6,60 +6,42 @@ ghost use Rattle.std.specs.Prelude.{true, ◌≡◌, ◌*◌, ◌<◌, ◌≤◌
 ghost use Rattle.model.specs.Inputs.{fault_count};
 ghost use Rattle.model.specs.Accepted.{ValidInputs};
 ghost use Rattle.faults.specs.Given.{Blank};
-ghost use Rattle.stages.specs.Stages.{Gradable, Standing, RowRoom};
+ghost use Rattle.stages.specs.Stages.{Grades, Standing, RowRoom};
 ghost use Rattle.sieve.specs.Sieve.{is_mark, Sieved};
 ghost use Rattle.batch.specs.Batch.{Stepped, PackFound, Recorded, NextPack};
 
-use job::Job;
-use places::Places;
 use plain::Firsts;
-use stages::{Counts, Extras, Feed, Hits, Masks, Row, State, Times, Trials, Words};
+use run::Setup;
+use stages::{LaneFaults, Space};
 
 // Fault j's record, if it has a mark: the verdict of its lane. Which lane the next fault with a mark has.
 fn write_open(
-    c: &[u8],
-    job: Job,
-    t: &[u8],
+    setup: &Setup,
     fs: &[u8],
     j: usize,
     plan: &[u8],
     k: usize,
-    firsts: Firsts,
+    firsts: &Firsts,
     lane: usize,
-    moments: &Places,
-    lines: &Places,
-    pins: &[u16],
-    flops: &[usize],
-    outs: &[usize],
-    hits: &mut Hits,
-    masks: &mut Masks,
-    feed: &mut Feed,
-    words: &mut Words,
-    state: &mut State,
-    units: &mut Trials,
-    bits: &mut Trials,
-    row: &mut Row,
+    given: &mut LaneFaults,
+    space: &mut Space,
     states: &mut [u8],
     list: &mut [u8],
-    nout: &mut Counts,
-    times: &mut Times,
-    extras: &mut Extras,
     work: &mut [u8],
     res: &mut [u8],
 ) -> usize
-    requires { (Gradable c.now t.now plan.now k job pins.now flops.now outs.now) × (Standing c.now t.now work.old) × (Blank hits.old masks.old)
-        × (RowRoom c.now t.now states.old) × (RowRoom c.now t.now list.old) × (ValidInputs c.now t.now 0 32768 fs.now) × (16 * fault_count fs.now ≤ length res.old)
+    requires { (Grades setup.now plan.now k) × (Standing setup.now.circuit.now setup.now.test.now work.old) × (Blank given.old.hits given.old.masks)
+        × (RowRoom setup.now.circuit.now setup.now.test.now states.old) × (RowRoom setup.now.circuit.now setup.now.test.now list.old) × (ValidInputs setup.now.circuit.now setup.now.test.now 0 32768 fs.now) × (16 * fault_count fs.now ≤ length res.old)
         × (j < fault_count fs.now) × (is_mark res.old j ≡ true → lane < 64) }
-    ensures { Stepped c.now t.now fs.now plan.now k j lane firsts moments.now lines.now
-        res.old hits.new masks.new work.new res.new result }
+    ensures { Stepped setup.now.circuit.now setup.now.test.now fs.now plan.now k j lane firsts.now firsts.now.times firsts.now.lines
+        res.old given.new.hits given.new.masks work.new res.new result }
 {
     let at = 16 * j;
     if res[at] != 0 {
         return lane;
     }
     let verdict = decide::grade_fault(
-        c, job, t, fs, j, plan, k, firsts, lane, moments, lines, pins, flops, outs, hits, masks,
-        feed, words, state, units, bits, row, states, list, nout, times, extras, work,
+        setup, fs, j, plan, k, firsts, lane, given, space, states, list, work,
     );
     record::write_record(&mut res[at..], verdict);
     lane + 1
@@ -68,113 +50,69 @@ fn write_open(
 // The records of a pack's faults, those with a mark between `from` and `to`, of which stage 1 has found what there is: the first one in lane 0, the
 // next in lane 1, and so on. Between them stand records that are finished.
 fn write_pack(
-    c: &[u8],
-    job: Job,
-    t: &[u8],
+    setup: &Setup,
     fs: &[u8],
     from: usize,
     to: usize,
     plan: &[u8],
     k: usize,
-    firsts: Firsts,
-    moments: &Places,
-    lines: &Places,
-    pins: &[u16],
-    flops: &[usize],
-    outs: &[usize],
-    hits: &mut Hits,
-    masks: &mut Masks,
-    feed: &mut Feed,
-    words: &mut Words,
-    state: &mut State,
-    units: &mut Trials,
-    bits: &mut Trials,
-    row: &mut Row,
+    firsts: &Firsts,
+    given: &mut LaneFaults,
+    space: &mut Space,
     states: &mut [u8],
     list: &mut [u8],
-    nout: &mut Counts,
-    times: &mut Times,
-    extras: &mut Extras,
     work: &mut [u8],
     res: &mut [u8],
 )
-    requires { (Gradable c.now t.now plan.now k job pins.now flops.now outs.now) × (Standing c.now t.now work.old) × (Blank hits.old masks.old)
-        × (RowRoom c.now t.now states.old) × (RowRoom c.now t.now list.old) × (ValidInputs c.now t.now 0 32768 fs.now) × (16 * fault_count fs.now ≤ length res.old)
-        × (from ≤ to) × (to ≤ fault_count fs.now) × (Sieved c.now t.now fs.now from to res.old) × (PackFound c.now t.now fs.now res.old from to firsts moments.now lines.now) }
-    ensures { Recorded c.now t.now fs.now plan.now k from to res.old hits.new masks.new work.new res.new }
+    requires { (Grades setup.now plan.now k) × (Standing setup.now.circuit.now setup.now.test.now work.old) × (Blank given.old.hits given.old.masks)
+        × (RowRoom setup.now.circuit.now setup.now.test.now states.old) × (RowRoom setup.now.circuit.now setup.now.test.now list.old) × (ValidInputs setup.now.circuit.now setup.now.test.now 0 32768 fs.now) × (16 * fault_count fs.now ≤ length res.old)
+        × (from ≤ to) × (to ≤ fault_count fs.now) × (Sieved setup.now.circuit.now setup.now.test.now fs.now from to res.old) × (PackFound setup.now.circuit.now setup.now.test.now fs.now res.old from to firsts.now firsts.now.times firsts.now.lines) }
+    ensures { Recorded setup.now.circuit.now setup.now.test.now fs.now plan.now k from to res.old given.new.hits given.new.masks work.new res.new }
 {
-    let mut lane: usize = 0;
-    let mut j = from;
-    while j < to {
+    let mut lane = 0;
+    for j in from..to {
         lane = write_open(
-            c, job, t, fs, j, plan, k, firsts, lane, moments, lines, pins, flops, outs, hits,
-            masks, feed, words, state, units, bits, row, states, list, nout, times, extras, work,
-            res,
+            setup, fs, j, plan, k, firsts, lane, given, space, states, list, work, res,
         );
-        j += 1;
     }
 }
 
 // The pack that begins at `from`: its faults, their places by stage 1, and then their records. Where the next one begins.
 pub fn grade_pack(
-    c: &[u8],
-    job: Job,
-    t: &[u8],
+    setup: &Setup,
     fs: &[u8],
     from: usize,
     plan: &[u8],
     k: usize,
-    pins: &[u16],
-    flops: &[usize],
-    outs: &[usize],
-    hits: &mut Hits,
-    masks: &mut Masks,
-    feed: &mut Feed,
-    words: &mut Words,
-    state: &mut State,
-    units: &mut Trials,
-    bits: &mut Trials,
-    row: &mut Row,
+    given: &mut LaneFaults,
+    space: &mut Space,
     states: &mut [u8],
     list: &mut [u8],
-    nout: &mut Counts,
-    times: &mut Times,
-    extras: &mut Extras,
     work: &mut [u8],
     res: &mut [u8],
 ) -> usize
-    requires { (Gradable c.now t.now plan.now k job pins.now flops.now outs.now) × (Standing c.now t.now work.old) × (Blank hits.old masks.old)
-        × (RowRoom c.now t.now states.old) × (RowRoom c.now t.now list.old) × (ValidInputs c.now t.now 0 32768 fs.now) × (16 * fault_count fs.now ≤ length res.old)
-        × (from ≤ fault_count fs.now) × (Sieved c.now t.now fs.now from (fault_count fs.now) res.old) }
-    ensures { (NextPack from (fault_count fs.now) result) × (Recorded c.now t.now fs.now plan.now k from result res.old hits.new masks.new work.new res.new) }
+    requires { (Grades setup.now plan.now k) × (Standing setup.now.circuit.now setup.now.test.now work.old) × (Blank given.old.hits given.old.masks)
+        × (RowRoom setup.now.circuit.now setup.now.test.now states.old) × (RowRoom setup.now.circuit.now setup.now.test.now list.old) × (ValidInputs setup.now.circuit.now setup.now.test.now 0 32768 fs.now) × (16 * fault_count fs.now ≤ length res.old)
+        × (from ≤ fault_count fs.now) × (Sieved setup.now.circuit.now setup.now.test.now fs.now from (fault_count fs.now) res.old) }
+    ensures { (NextPack from (fault_count fs.now) result) × (Recorded setup.now.circuit.now setup.now.test.now fs.now plan.now k from result res.old given.new.hits given.new.masks work.new res.new) }
 {
     let mut few = [0u8; 256];
-    let mut moments = [0usize; 64];
-    let mut lines = [0usize; 64];
     let pack = sieve::next_pack(fs, res, from, fs.len() / 4, &mut few);
     let firsts = places::find_places(
-        c,
-        job,
-        t,
+        setup,
         &few,
         0,
         pack.size,
-        job.units,
+        setup.job.units,
         work,
-        pins,
-        flops,
-        outs,
-        hits,
-        masks,
-        feed,
-        words,
-        state,
-        &mut moments,
-        &mut lines,
+        &mut given.hits,
+        &mut given.masks,
+        &mut space.feed,
+        &mut space.words,
+        &mut space.state,
     );
     write_pack(
-        c, job, t, fs, from, pack.to, plan, k, firsts, &moments, &lines, pins, flops, outs, hits,
-        masks, feed, words, state, units, bits, row, states, list, nout, times, extras, work, res,
+        setup, fs, from, pack.to, plan, k, &firsts, given, space, states, list, work, res,
     );
     pack.to
 }

@@ -4,33 +4,29 @@
 
 ghost use Rattle.std.specs.Prelude.{◌*◌, ◌≤◌};
 
-use job::Outcome;
+use bench_file::LONGEST;
 use read_bench::RECORDS;
 
 // The records that stand at the beginning of the area.
 fn write(rt: &HostRuntime, records: &[u8; RECORDS], count: usize)
     requires { 12 * count ≤ 49152 }
 {
-    let area = &records[..];
     let size = 12 * count;
-    printing::deliver(rt, &area[0..size], b"bench: cannot write the circuit\n");
+    printing::deliver(rt, &records[..size], "bench: cannot write the circuit");
 }
 
 // The circuit of the text, or why there is none.
 fn convert(rt: &HostRuntime, text: &[u8]) {
     let mut records = [0u8; RECORDS];
     match read_bench::read_bench(text, &mut records) {
-        Outcome::Refused { rule, at } => bench_file::tell_refused(rt, b"bench", rule, at),
-        Outcome::Done(count) => write(rt, &records, count),
+        Ok(count) => write(rt, &records, count),
+        Err(refusal) => bench_file::tell_refused(rt, "bench", refusal),
     }
 }
 
 fn main(rt: HostRuntime) {
-    let mut area = bench_file::area();
-    let text = bench_file::read_text(&rt, b"bench", b"the records of a circuit", &mut area);
-    if !text.whole {
-        return;
+    let mut area: [u8; LONGEST] = printing::zeros();
+    if let Some(size) = bench_file::read_text(&rt, "bench", "the records of a circuit", &mut area) {
+        convert(&rt, &area[..size]);
     }
-    let size = text.size;
-    convert(&rt, &area[..size]);
 }

@@ -4,10 +4,11 @@
 // length and that of the result area before it, in 32 bits each. The area holds one byte throughout before the call.
 #![tactic(auto)]
 
-ghost use Rattle.std.specs.Prelude.{◌+◌, ◌<◌, ◌≤◌, length};
+ghost use Rattle.std.specs.Prelude.{◌<◌, length, IfSome};
 
-use job::Outcome;
+use bench_file::LONGEST;
 use printing::BLANK;
+use rules::Refusal;
 
 // A record more than a circuit can have.
 const AREA: usize = 49164;
@@ -15,7 +16,7 @@ const AREA: usize = 49164;
 fn print_name(rt: &impl Print, text: &[u8], line: usize) {
     let name = read_bench::name_of(text, line);
     printing::text(rt, b" ");
-    if name.len() == 0 {
+    if name.is_empty() {
         printing::text(rt, b"-");
         return;
     }
@@ -49,19 +50,18 @@ fn print_done(rt: &impl Print, text: &[u8], count: usize, res: &[u8; AREA]) {
         printing::text(rt, b" TOO MANY\n");
         return;
     }
-    let area = &res[..];
-    let end = 12 * count;
+    let (records, rest) = res.split_at(12 * count);
     if count <= 16 {
-        print_few(rt, text, &area[0..end], count);
+        print_few(rt, text, records, count);
     } else {
-        print_many(rt, text, &area[0..end], count - 1);
+        print_many(rt, text, records, count - 1);
     }
     print_name(rt, text, count);
-    printing::kept_or_changed(rt, printing::kept(&area[end..], BLANK));
+    printing::kept_or_changed(rt, printing::kept(rest, BLANK));
 }
 
-fn print_refused(rt: &impl Print, text: &[u8], rule: u8, at: usize, res: &[u8; AREA]) {
-    printing::refused(rt, rule, at);
+fn print_refused(rt: &impl Print, text: &[u8], refusal: Refusal, res: &[u8; AREA]) {
+    printing::refused(rt, refusal);
     print_name(rt, text, 0);
     printing::kept_or_changed(rt, printing::kept(res, BLANK));
 }
@@ -72,40 +72,24 @@ fn run(rt: &impl Print, text: &[u8], size: usize) {
         printing::text(rt, b"the result area is too long\n");
         return;
     }
-    match read_bench::read_bench(text, &mut result[0..size]) {
-        Outcome::Done(count) => print_done(rt, text, count, &result),
-        Outcome::Refused { rule, at } => print_refused(rt, text, rule, at, &result),
+    match read_bench::read_bench(text, &mut result[..size]) {
+        Ok(count) => print_done(rt, text, count, &result),
+        Err(refusal) => print_refused(rt, text, refusal, &result),
     }
 }
 
-// The text that begins here, behind its two lengths; where the next one begins.
-fn run_text(rt: &impl Print, texts: &[u8], at: usize) -> usize
-    requires { at + 8 ≤ length texts.now }
-    ensures { (at < result) × (result ≤ length texts.now) }
+// The text that begins here, behind its two lengths; what is behind it, or none where it is cut off.
+fn run_text<'a>(rt: &impl Print, texts: &'a [u8]) -> Option<&'a [u8]>
+    ensures { IfSome result (λ rest. length rest.now < length texts.now) }
 {
-    let from = at + 8;
-    let end = from + printing::long_at(texts, at);
-    let size = printing::long_at(texts, at + 4);
-    if texts.len() < end {
-        printing::cut_off(rt);
-        return texts.len();
-    }
-    run(rt, &texts[from..end], size);
-    end
-}
-
-fn run_texts(rt: &impl Print, texts: &[u8]) {
-    let mut at: usize = 0;
-    while at + 8 <= texts.len() {
-        at = run_text(rt, texts, at);
-    }
-    if at < texts.len() {
-        printing::cut_off(rt);
-    }
+    let (head, rest) = texts.split_at_checked(8)?;
+    let (text, rest) = rest.split_at_checked(printing::long_at(head, 0))?;
+    run(rt, text, printing::long_at(head, 4));
+    Some(rest)
 }
 
 fn main(rt: HostRuntime) {
-    let mut texts = bench_file::area();
+    let mut texts: [u8; LONGEST] = printing::zeros();
     let size = printing::read(&rt, b"texts.dat", &mut texts);
-    run_texts(&rt, &texts[..size]);
+    printing::run_jobs(&rt, &texts[..size], |texts| run_text(&rt, texts));
 }

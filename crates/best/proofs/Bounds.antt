@@ -17,7 +17,7 @@ use Rattle.model.specs.Choose.{size, smaller_extra, larger_extra}
 use Rattle.model.proofs.Runs.{length-next_state}
 use Rattle.best.specs.Best.{AtMost, most_nout}
 
-count_x-bound : (row : List ℕ) → count_x row ≤ length row
+pub count_x-bound : (row : List ℕ) → count_x row ≤ length row
 unfolding count_x
 count_x-bound [] = omega arith
 count_x-bound (a ∷ row) =

@@ -1,7 +1,8 @@
 -- What the scan for the best pair asks for and gives. A pair's score is one number whose digits are the criteria, the first one highest, so
 -- that the better of two pairs is the one with the larger score; of two that are the same the earlier stays.
-use Rattle.std.specs.Prelude.{◌≡◌, false, List, ℕ, ◌+◌, ◌*◌, ◌-◌, ◌<◌, ◌≤◌, get_or}
-use Rattle.std.proofs.Math.Option.{Option, none, some}
+use Rattle.std.specs.Prelude.{◌≡◌, false, List, ℕ, ◌+◌, ◌*◌, ◌-◌, ◌<◌, ◌≤◌, get_or, Option, Some, None}
+use Rattle.std.proofs.Math.Option.{none, some}
+use Rattle.std.proofs.Math.Option as model
 use Rattle.lists.specs.Field.{Rows}
 use Rattle.model.specs.Inputs.{F, L, Fault}
 use Rattle.model.specs.Simulation.{plain_state}
@@ -42,44 +43,44 @@ pub record MeritsSet (units size : ℕ) (states nouts merits : List ℕ) : Type 
   pub right : (c t : List ℕ) (f : Fault) → size ≡ F c → Rows (F c) units states (λ u. plain_state c t f u) → ((u : ℕ) → u < units → get_or nouts u 0 ≡ nout c t f u) → Merits c t f units merits
 
 -- ---- the best so far
--- One pair more: it is passed over where its first field is 0, and else replaces the best if its score is larger.
-pub record Compared (best : Best) (m u i a b : ℕ) (r : Best) : Type 0 where
+-- One pair more: it is passed over where its first field is 0, and else replaces the best if there is none or its score is larger.
+pub record Compared (best : Option Best) (m u i a b : ℕ) (r : Option Best) : Type 0 where
   pub passed : a ≡ 0 → r ≡ best
-  pub stays : 0 < a → score_of m a b ≤ best.score → r ≡ best
-  pub score : 0 < a → best.score < score_of m a b → r.score ≡ score_of m a b
-  pub unit : 0 < a → best.score < score_of m a b → r.unit ≡ u
-  pub bit : 0 < a → best.score < score_of m a b → r.bit ≡ i
+  pub stays : 0 < a → (old : Best) → best ≡ Some old → score_of m a b ≤ old.score → r ≡ best
+  pub replaced : 0 < a → ((old : Best) → best ≡ Some old → old.score < score_of m a b) → r ≡ Some (record { score = score_of m a b; unit = u; bit = i })
 
 -- a pair below so many units and flip-flops, where there is one
-pub record Inside (units size : ℕ) (r : Best) : Type 0 where
-  pub unit : 0 < r.score → r.unit < units
-  pub bit : 0 < r.score → r.bit < size
+pub record Inside (units size : ℕ) (r : Option Best) : Type 0 where
+  pub unit : (x : Best) → r ≡ Some x → x.unit < units
+  pub bit : (x : Best) → r ≡ Some x → x.bit < size
+
+-- a pair with its score
+abbrev pub scored : List ℕ → List ℕ → Fault → ℕ × ℕ → Best
+scored c t f q = record { score = pair_score c t f q.0 q.1; unit = q.0; bit = q.1 }
 
 -- the best of the pairs before (u, i)
-pub record Standing (c t : List ℕ) (f : Fault) (o : Option (ℕ × ℕ)) (u i : ℕ) (r : Best) : Type 0 where
-  pub absent : o ≡ none → r.score ≡ 0
-  pub score : (q : ℕ × ℕ) → o ≡ some q → r.score ≡ pair_score c t f q.0 q.1
-  pub unit : (q : ℕ × ℕ) → o ≡ some q → r.unit ≡ q.0
-  pub bit : (q : ℕ × ℕ) → o ≡ some q → r.bit ≡ q.1
+pub record Standing (c t : List ℕ) (f : Fault) (o : model.Option (ℕ × ℕ)) (u i : ℕ) (r : Option Best) : Type 0 where
+  pub absent : o ≡ none → r ≡ None
+  pub present : (q : ℕ × ℕ) → o ≡ some q → r ≡ Some (scored c t f q)
   pub early : (q : ℕ × ℕ) → o ≡ some q → q.0 ≤ u
   pub earlier : (q : ℕ × ℕ) → o ≡ some q → q.0 ≡ u → q.1 < i
 
 -- the flip-flops of unit u scanned
-pub record Scanned (u size m : ℕ) (table : List ℕ) (best r : Best) : Type 0 where
+pub record Scanned (u size m : ℕ) (table : List ℕ) (best r : Option Best) : Type 0 where
   pub inside : (units : ℕ) → u < units → Inside units size best → Inside units size r
-  pub next : (c t : List ℕ) (f : Fault) (pairs : List (ℕ × ℕ)) (o : Option (ℕ × ℕ)) → size ≡ F c → m ≡ merit c t f u → Weighed c t f pairs (size * u) (size * u + size) table
+  pub next : (c t : List ℕ) (f : Fault) (pairs : List (ℕ × ℕ)) (o : model.Option (ℕ × ℕ)) → size ≡ F c → m ≡ merit c t f u → Weighed c t f pairs (size * u) (size * u + size) table
       → Standing c t f o u 0 best → Standing c t f (best_at c t f pairs u size o) (u + 1) 0 r
 
 -- ---- the next pair
 -- The answer to what Choose asks: the next pair after those taken, or that there is none.
-pub record Picked (c t : List ℕ) (f : Fault) (pairs : List (ℕ × ℕ)) (r : Best) : Type 0 where
-  pub absent : next_pair c t f pairs ≡ none → r.score ≡ 0
-  pub present : (q : ℕ × ℕ) → next_pair c t f pairs ≡ some q → (0 < r.score) × (r.unit ≡ q.0) × (r.bit ≡ q.1)
-  pub nothing : r.score ≡ 0 → next_pair c t f pairs ≡ none
-  pub found : 0 < r.score → next_pair c t f pairs ≡ some (r.unit, r.bit)
+pub record Picked (c t : List ℕ) (f : Fault) (pairs : List (ℕ × ℕ)) (r : Option Best) : Type 0 where
+  pub absent : next_pair c t f pairs ≡ none → r ≡ None
+  pub present : (q : ℕ × ℕ) → next_pair c t f pairs ≡ some q → r ≡ Some (scored c t f q)
+  pub nothing : r ≡ None → next_pair c t f pairs ≡ none
+  pub found : (x : Best) → r ≡ Some x → next_pair c t f pairs ≡ some (x.unit, x.bit)
 
 -- the units below `units` scanned
-pub record BestPicked (units size : ℕ) (merits table : List ℕ) (r : Best) : Type 0 where
+pub record BestPicked (units size : ℕ) (merits table : List ℕ) (r : Option Best) : Type 0 where
   pub inside : Inside units size r
   pub picked : (c t : List ℕ) (f : Fault) (pairs : List (ℕ × ℕ)) → size ≡ F c → units ≤ L c t → Merits c t f units merits → Weighed c t f pairs 0 (size * units) table
       → ((u i : ℕ) → units ≤ u → u < L c t → takes c t f pairs u i ≡ false) → Picked c t f pairs r

@@ -3,12 +3,12 @@
 // only a larger score replaces the best so far: of pairs that are the same the first stays.
 #![tactic(auto)]
 
-ghost use Rattle.std.specs.Prelude.{◌≡◌, ◌+◌, ◌*◌, ◌<◌, ◌≤◌, length, take};
+ghost use Rattle.std.specs.Prelude.{◌≡◌, ◌+◌, ◌*◌, ◌<◌, ◌≤◌, length};
 ghost use Rattle.lists.specs.Field.{word16};
 ghost use Rattle.model.specs.Expansion.{count_x};
 ghost use Rattle.best.specs.Best.{AtMost, most_nout, most_merit, MeritsSet, Compared, Scanned, BestPicked};
 
-// The best pair so far: 1 more than its score, or 0 where there is none; its unit and flip-flop.
+// The best pair so far: 1 more than its score; its unit and flip-flop.
 #[derive(Clone, Copy)]
 pub struct Best {
     pub score: usize,
@@ -16,18 +16,11 @@ pub struct Best {
     pub bit: usize,
 }
 
-// The places, of the first so many, that are X.
-fn count_x(row: &[u8], count: usize) -> usize
-    requires { count ≤ length row.now }
-    ensures { (result ≡ count_x (take count row.now)) × (result ≤ count) }
+// The places that are X.
+fn count_x(row: &[u8]) -> usize
+    ensures { (result ≡ count_x row.now) × (result ≤ length row.now) }
 {
-    let mut places: usize = 0;
-    let mut s: usize = 0;
-    while s < count {
-        places += basics::one_if(row[s] == 2);
-        s += 1;
-    }
-    places
+    row.iter().filter(|v| **v == 2).count()
 }
 
 // The merits of the first so many units, from the table of plain states, a row a unit, and Nout of every unit.
@@ -35,18 +28,23 @@ pub fn set_merits(units: usize, size: usize, states: &[u8], nout: &[usize], meri
     requires { (units ≤ 1024) × (size ≤ 256) × (units * size ≤ length states.now) × (units ≤ length nout.now) × (units ≤ length merits.old) × (AtMost most_nout units nout.now) }
     ensures { MeritsSet units size states.now nout.now merits.new }
 {
-    let mut u: usize = 0;
-    while u < units {
+    for u in 0..units {
         let at = size * u;
         let to = at + size;
-        let unknown = count_x(&states[at..to], size);
+        let unknown = count_x(&states[at..to]);
         merits[u] = nout[u] * 512 + (256 - unknown);
-        u += 1;
     }
 }
 
 // The better of the best so far and (u, i), whose entry stands at a place of the table.
-fn compare(best: Best, merit: usize, u: usize, i: usize, table: &[u8], at: usize) -> Best
+fn compare(
+    best: Option<Best>,
+    merit: usize,
+    u: usize,
+    i: usize,
+    table: &[u8],
+    at: usize,
+) -> Option<Best>
     requires { (merit ≤ most_merit) × (at + 4 ≤ length table.now) }
     ensures { Compared best merit u i (word16 table.now at) (word16 table.now (at + 2)) result }
 {
@@ -56,45 +54,37 @@ fn compare(best: Best, merit: usize, u: usize, i: usize, table: &[u8], at: usize
     }
     let second = basics::word_at(table, at + 2);
     let score = (merit * 512 + (first - 1)) * 512 + second + 1;
-    if score <= best.score {
-        return best;
-    }
-    Best {
-        score,
-        unit: u,
-        bit: i,
+    match best {
+        Some(old) if score <= old.score => best,
+        _ => Some(Best {
+            score,
+            unit: u,
+            bit: i,
+        }),
     }
 }
 
 // The best so far with the flip-flops of unit u.
-fn best_at(u: usize, size: usize, merit: usize, table: &[u8], best: Best) -> Best
+fn best_at(u: usize, size: usize, merit: usize, table: &[u8], best: Option<Best>) -> Option<Best>
     requires { (u < 1024) × (size ≤ 256) × (merit ≤ most_merit) × (4 * (size * u + size) ≤ length table.now) }
     ensures { Scanned u size merit table.now best result }
 {
     let from = size * u;
     let mut found = best;
-    let mut i: usize = 0;
-    while i < size {
+    for i in 0..size {
         found = compare(found, merit, u, i, table, 4 * (from + i));
-        i += 1;
     }
     found
 }
 
-// The best of the pairs at the units below `units`, by the table, 4 bytes a pair.
-pub fn best_pair(units: usize, size: usize, merits: &[usize], table: &[u8]) -> Best
+// The best of the pairs at the units below `units`, by the table, 4 bytes a pair, or None where the table has no pair.
+pub fn best_pair(units: usize, size: usize, merits: &[usize], table: &[u8]) -> Option<Best>
     requires { (units ≤ 1024) × (size ≤ 256) × (units ≤ length merits.now) × (4 * (size * units) ≤ length table.now) × (AtMost most_merit units merits.now) }
     ensures { BestPicked units size merits.now table.now result }
 {
-    let mut found = Best {
-        score: 0,
-        unit: 0,
-        bit: 0,
-    };
-    let mut u: usize = 0;
-    while u < units {
+    let mut found = None;
+    for u in 0..units {
         found = best_at(u, size, merits[u], table, found);
-        u += 1;
     }
     found
 }

@@ -1,24 +1,74 @@
 // The four calls of document 01 by number, for programs that are told which to make.
 #![tactic(auto)]
 
+ghost use Rattle.calls.specs.Numbers.{Numbered};
+
 use job::Outcome;
 
-// Call 1 is Simulate, 2 Grade, 3 Choose and any other Group; each takes what it takes of what is lent.
-pub fn call(
-    number: u8,
-    circuit: &[u8],
-    test: &[u8],
-    faults: &[u8],
-    plan: &[u8],
-    verdicts: &[u8],
-    k: usize,
-    work: &mut [u8],
-    res: &mut [u8],
-) -> Outcome {
-    match number {
-        1 => simulate::simulate(circuit, test, faults, work, res),
-        2 => grade::grade(circuit, test, faults, plan, k, work, res),
-        3 => choose::choose(circuit, test, faults, k, work, res),
-        _ => group::group(verdicts, res),
+// Which call, numbered from 1 on.
+#[derive(Clone, Copy)]
+pub enum Kind {
+    Simulate,
+    Grade,
+    Choose,
+    Group,
+}
+
+// A number that no call has.
+#[derive(Clone, Copy)]
+pub struct UnknownCall(pub u8);
+
+impl TryFrom<u8> for Kind {
+    type Error = UnknownCall;
+
+    ghost try_from_gives = { Numbered };
+
+    fn try_from(number: u8) -> Result<Kind, UnknownCall> {
+        match number {
+            1 => Ok(Kind::Simulate),
+            2 => Ok(Kind::Grade),
+            3 => Ok(Kind::Choose),
+            4 => Ok(Kind::Group),
+            _ => Err(UnknownCall(number)),
+        }
     }
+}
+
+// What is lent to be read; each call takes what it takes of it.
+#[derive(Clone, Copy)]
+pub struct Lent<'a> {
+    pub circuit: &'a [u8],
+    pub test: &'a [u8],
+    pub faults: &'a [u8],
+    pub plan: &'a [u8],
+    pub verdicts: &'a [u8],
+    pub k: usize,
+}
+
+// Makes the call.
+pub fn call(kind: Kind, lent: Lent, work: &mut [u8], res: &mut [u8]) -> Outcome {
+    let Lent {
+        circuit,
+        test,
+        faults,
+        plan,
+        verdicts,
+        k,
+    } = lent;
+    match kind {
+        Kind::Simulate => simulate::simulate(circuit, test, faults, work, res),
+        Kind::Grade => grade::grade(circuit, test, faults, plan, k, work, res),
+        Kind::Choose => choose::choose(circuit, test, faults, k, work, res),
+        Kind::Group => group::group(verdicts, res),
+    }
+}
+
+// Makes the call of this number; for a number that no call has, Group.
+pub fn call_numbered(number: u8, lent: Lent, work: &mut [u8], res: &mut [u8]) -> Outcome {
+    call(
+        Kind::try_from(number).unwrap_or(Kind::Group),
+        lent,
+        work,
+        res,
+    )
 }

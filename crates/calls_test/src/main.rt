@@ -3,126 +3,72 @@
 // result area and those of circuit, test, faults, plan and verdicts, and then these five. Both areas hold one byte throughout before the call.
 #![tactic(auto)]
 
-ghost use Rattle.std.specs.Prelude.{◌+◌, ◌<◌, ◌≤◌, length};
+ghost use Rattle.std.specs.Prelude.{◌<◌, ◌≤◌, length, IfSome};
 
+use calls::Lent;
 use job::Outcome;
 use printing::BLANK;
 
 // As long as 16 bits can say.
 const AREA: usize = 65535;
 
-// The result area of this length.
-fn print_result(rt: &impl Print, res: &[u8; AREA], size: usize)
-    requires { size ≤ 65535 }
-{
-    let area = &res[..];
-    if 0 < size {
-        printing::text(rt, b" ");
-        printing::hex(rt, &area[0..size], AREA);
-    }
-}
-
-fn print_done(rt: &impl Print, n: usize, size: usize, res: &[u8; AREA])
-    requires { size ≤ 65535 }
-{
-    printing::done(rt, n);
-    print_result(rt, res, size);
-    printing::text(rt, b"\n");
-}
-
-fn print_refused(
+// What was answered, and the result area of this length. Takes the arrays whole, so that nothing is to be shown of their lengths after a part was
+// lent.
+fn print_answered(
     rt: &impl Print,
-    rule: u8,
-    at: usize,
+    outcome: Outcome,
     size: usize,
     work: &[u8; AREA],
     res: &[u8; AREA],
 )
     requires { size ≤ 65535 }
 {
-    printing::refused(rt, rule, at);
-    print_result(rt, res, size);
-    printing::kept_or_changed(rt, printing::kept(work, BLANK));
+    printing::outcome(rt, outcome);
+    if 0 < size {
+        printing::text(rt, b" ");
+        printing::hex(rt, &res[..size], AREA);
+    }
+    match outcome {
+        Ok(_) => printing::text(rt, b"\n"),
+        Err(_) => printing::kept_or_changed(rt, printing::kept(work, BLANK)),
+    }
 }
 
-fn run(
-    rt: &impl Print,
-    number: u8,
-    circuit: &[u8],
-    test: &[u8],
-    faults: &[u8],
-    plan: &[u8],
-    verdicts: &[u8],
-    k: usize,
-    room: usize,
-    size: usize,
-)
+fn run(rt: &impl Print, number: u8, lent: Lent, room: usize, size: usize)
     requires { (room ≤ 65535) × (size ≤ 65535) }
 {
     let mut work = [BLANK; AREA];
     let mut result = [BLANK; AREA];
-    match calls::call(
-        number,
+    let outcome = calls::call_numbered(number, lent, &mut work[..room], &mut result[..size]);
+    print_answered(rt, outcome, size, &work, &result);
+}
+
+// The call that begins here; what is behind it, or none where it is cut off.
+fn run_call<'a>(rt: &impl Print, calls: &'a [u8]) -> Option<&'a [u8]>
+    ensures { IfSome result (λ rest. length rest.now < length calls.now) }
+{
+    let (head, rest) = calls.split_at_checked(18)?;
+    let (circuit, rest) = rest.split_at_checked(basics::word_at(head, 8))?;
+    let (test, rest) = rest.split_at_checked(basics::word_at(head, 10))?;
+    let (faults, rest) = rest.split_at_checked(basics::word_at(head, 12))?;
+    let (plan, rest) = rest.split_at_checked(basics::word_at(head, 14))?;
+    let (verdicts, rest) = rest.split_at_checked(basics::word_at(head, 16))?;
+    let lent = Lent {
         circuit,
         test,
         faults,
         plan,
         verdicts,
-        k,
-        &mut work[0..room],
-        &mut result[0..size],
-    ) {
-        Outcome::Done(n) => print_done(rt, n, size, &result),
-        Outcome::Refused { rule, at } => print_refused(rt, rule, at, size, &work, &result),
-    }
-}
-
-// The call that begins here; where the next one begins.
-fn run_call(rt: &impl Print, calls: &[u8], at: usize) -> usize
-    requires { at + 18 ≤ length calls.now }
-    ensures { (at < result) × (result ≤ length calls.now) }
-{
-    let from = at + 18;
-    let test = from + basics::word_at(calls, at + 8);
-    let faults = test + basics::word_at(calls, at + 10);
-    let plan = faults + basics::word_at(calls, at + 12);
-    let verdicts = plan + basics::word_at(calls, at + 14);
-    let end = verdicts + basics::word_at(calls, at + 16);
-    let number = calls[at];
-    let k = basics::word_at(calls, at + 2);
-    let room = basics::word_at(calls, at + 4);
-    let size = basics::word_at(calls, at + 6);
-    if calls.len() < end {
-        printing::cut_off(rt);
-        return calls.len();
-    }
-    run(
-        rt,
-        number,
-        &calls[from..test],
-        &calls[test..faults],
-        &calls[faults..plan],
-        &calls[plan..verdicts],
-        &calls[verdicts..end],
-        k,
-        room,
-        size,
-    );
-    end
-}
-
-fn run_calls(rt: &impl Print, calls: &[u8]) {
-    let mut at: usize = 0;
-    while at + 18 <= calls.len() {
-        at = run_call(rt, calls, at);
-    }
-    if at < calls.len() {
-        printing::cut_off(rt);
-    }
+        k: basics::word_at(head, 2),
+    };
+    let room = basics::word_at(head, 4);
+    let size = basics::word_at(head, 6);
+    run(rt, head[0], lent, room, size);
+    Some(rest)
 }
 
 fn main(rt: HostRuntime) {
     let mut calls = [0u8; 65536];
     let size = printing::read(&rt, b"calls.dat", &mut calls);
-    run_calls(&rt, &calls[..size]);
+    printing::run_jobs(&rt, &calls[..size], |calls| run_call(&rt, calls));
 }

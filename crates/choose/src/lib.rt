@@ -9,47 +9,51 @@ ghost use Rattle.model.specs.Choose.{chosen, choose_answer, choose_area};
 ghost use Rattle.model.specs.Promises.{ChoosesWell};
 ghost use Rattle.job.specs.Job.{answer_of, JobOf};
 ghost use Rattle.pick.specs.Pick.{Records};
-ghost use Rattle.choose.specs.Room.{Short, ShortTables};
+ghost use Rattle.choose.specs.Room.{RoomFor, Short, ShortTables};
 
-use job::{Job, JobCheck, Outcome};
+use job::{Job, Outcome};
+use run::Setup;
 
-// The records of a short job: how many there are.
-fn choose_short(
-    c: &[u8],
-    job: Job,
-    t: &[u8],
-    fs: &[u8],
-    k: usize,
-    work: &mut [u8],
-    res: &mut [u8],
-) -> usize
-    requires { (ChooseReady c.now t.now fs.now k (length work.old) (length res.old)) × (JobOf c.now t.now job) × (Short job) }
+// The records of a job, in arrays of these lengths: how many there are.
+fn choose_in<
+    const LINES: usize,
+    const PINS: usize,
+    const WORDS: usize,
+    const BITS: usize,
+    const TABLE: usize,
+    const UNITS: usize,
+    const EXTRAS: usize,
+>(c: &[u8], job: Job, t: &[u8], fs: &[u8], k: usize, work: &mut [u8], res: &mut [u8]) -> usize
+    requires { (ChooseReady c.now t.now fs.now k (length work.old) (length res.old)) × (JobOf c.now t.now job) × (RoomFor job LINES PINS WORDS BITS TABLE UNITS EXTRAS) }
     ensures { Records (chosen c.now t.now (fault_at fs.now 0) k) res.old res.new result }
 {
-    let mut pins = [0u16; 512];
+    let mut pins = [0u16; PINS];
     let mut flops = [0usize; 256];
     let mut outs = [0usize; 256];
-    let mut hits = [0u8; 128];
+    let mut hits = [0u8; LINES];
     let mut masks = [0u64; 2560];
-    let mut feed = [0u64; 64];
-    let mut words = [0u64; 256];
-    let mut state = [0u64; 64];
-    let mut free = [0u8; 512];
-    let mut states = [0u8; 512];
-    let mut list = [0u8; 512];
-    let mut nout = [0usize; 17];
-    let mut merits = [0usize; 16];
-    let mut extras = [0u8; 768];
+    let mut feed = [0u64; BITS];
+    let mut words = [0u64; WORDS];
+    let mut state = [0u64; BITS];
+    let mut free = [0u8; TABLE];
+    let mut states = [0u8; TABLE];
+    let mut list = [0u8; TABLE];
+    let mut nout = [0usize; UNITS];
+    let mut merits = [0usize; UNITS];
+    let mut extras = [0u8; EXTRAS];
     circuit::list_tables(c, job.lines, &mut pins, &mut flops, &mut outs);
-    propose::propose(
-        c,
+    let setup = Setup {
+        circuit: c,
+        test: t,
         job,
-        t,
+        pins: &pins,
+        flops: &flops,
+        outs: &outs,
+    };
+    propose::propose(
+        &setup,
         fs,
         k,
-        &pins,
-        &flops,
-        &outs,
         &mut hits,
         &mut masks,
         &mut feed,
@@ -64,6 +68,22 @@ fn choose_short(
         work,
         res,
     )
+}
+
+// The records of a short job.
+fn choose_short(
+    c: &[u8],
+    job: Job,
+    t: &[u8],
+    fs: &[u8],
+    k: usize,
+    work: &mut [u8],
+    res: &mut [u8],
+) -> usize
+    requires { (ChooseReady c.now t.now fs.now k (length work.old) (length res.old)) × (JobOf c.now t.now job) × (Short job) }
+    ensures { Records (chosen c.now t.now (fault_at fs.now 0) k) res.old res.new result }
+{
+    choose_in::<128, 512, 256, 64, 512, 17, 768>(c, job, t, fs, k, work, res)
 }
 
 // The records of a job whose tables are short.
@@ -79,44 +99,7 @@ fn choose_middle(
     requires { (ChooseReady c.now t.now fs.now k (length work.old) (length res.old)) × (JobOf c.now t.now job) × (ShortTables job) }
     ensures { Records (chosen c.now t.now (fault_at fs.now 0) k) res.old res.new result }
 {
-    let mut pins = [0u16; 16384];
-    let mut flops = [0usize; 256];
-    let mut outs = [0usize; 256];
-    let mut hits = [0u8; 4096];
-    let mut masks = [0u64; 2560];
-    let mut feed = [0u64; 512];
-    let mut words = [0u64; 8192];
-    let mut state = [0u64; 512];
-    let mut free = [0u8; 4096];
-    let mut states = [0u8; 4096];
-    let mut list = [0u8; 4096];
-    let mut nout = [0usize; 1025];
-    let mut merits = [0usize; 1024];
-    let mut extras = [0u8; 6144];
-    circuit::list_tables(c, job.lines, &mut pins, &mut flops, &mut outs);
-    propose::propose(
-        c,
-        job,
-        t,
-        fs,
-        k,
-        &pins,
-        &flops,
-        &outs,
-        &mut hits,
-        &mut masks,
-        &mut feed,
-        &mut words,
-        &mut state,
-        &mut free,
-        &mut states,
-        &mut list,
-        &mut nout,
-        &mut merits,
-        &mut extras,
-        work,
-        res,
-    )
+    choose_in::<4096, 16384, 8192, 512, 4096, 1025, 6144>(c, job, t, fs, k, work, res)
 }
 
 // The records of any job.
@@ -132,63 +115,14 @@ fn choose_long(
     requires { (ChooseReady c.now t.now fs.now k (length work.old) (length res.old)) × (JobOf c.now t.now job) }
     ensures { Records (chosen c.now t.now (fault_at fs.now 0) k) res.old res.new result }
 {
-    let mut pins = [0u16; 16384];
-    let mut flops = [0usize; 256];
-    let mut outs = [0usize; 256];
-    let mut hits = [0u8; 4096];
-    let mut masks = [0u64; 2560];
-    let mut feed = [0u64; 512];
-    let mut words = [0u64; 8192];
-    let mut state = [0u64; 512];
-    let mut free = [0u8; 262144];
-    let mut states = [0u8; 262144];
-    let mut list = [0u8; 262144];
-    let mut nout = [0usize; 1025];
-    let mut merits = [0usize; 1024];
-    let mut extras = [0u8; 6144];
-    circuit::list_tables(c, job.lines, &mut pins, &mut flops, &mut outs);
-    propose::propose(
-        c,
-        job,
-        t,
-        fs,
-        k,
-        &pins,
-        &flops,
-        &outs,
-        &mut hits,
-        &mut masks,
-        &mut feed,
-        &mut words,
-        &mut state,
-        &mut free,
-        &mut states,
-        &mut list,
-        &mut nout,
-        &mut merits,
-        &mut extras,
-        work,
-        res,
-    )
+    choose_in::<4096, 16384, 8192, 512, 262144, 1025, 6144>(c, job, t, fs, k, work, res)
 }
 
 // A job that the shortest arrays have room for.
 fn is_short(job: Job) -> bool
     ensures { result ≡ true → Short job }
 {
-    if job.lines > 128 {
-        return false;
-    }
-    if job.inputs > 32 {
-        return false;
-    }
-    if job.flops > 32 {
-        return false;
-    }
-    if job.outputs > 32 {
-        return false;
-    }
-    job.units <= 16
+    job.lines <= 128 && job.inputs <= 32 && job.flops <= 32 && job.outputs <= 32 && job.units <= 16
 }
 
 // The records of an accepted job: how many there are. The longest arrays are asked for at two places, so that the compiler leaves them a frame of
@@ -231,8 +165,6 @@ pub fn choose(
     ensures keeps { work.new ≡ unless_refused (choose_refusal circuit.now test.now faults.now k (length work.old) (length res.old)) work.new work.old }
     ensures promise { ChoosesWell circuit.now test.now faults.now k (answer_of result) res.new }
 {
-    match job::check_choose(circuit, test, faults, k, work.len(), res.len()) {
-        JobCheck::Broken { rule, at } => Outcome::Refused { rule, at },
-        JobCheck::Ready(job) => Outcome::Done(choose_job(circuit, job, test, faults, k, work, res)),
-    }
+    let job = job::check_choose(circuit, test, faults, k, work.len(), res.len())?;
+    Ok(choose_job(circuit, job, test, faults, k, work, res))
 }

@@ -8,6 +8,7 @@ use lib.Seq.{get_or_at, get_or-set_same, get_or-set_other}
 use native.Mathlib.Omega.{arith}
 use native.Mathlib.Decide.{dec_le}
 use lib.Dec.{eqb, leb}
+use Rattle.std.specs.Int.{from_bool}
 use borrow.Author.Tests.{le-leb, leb-true}
 use Rattle.lists.specs.Scan.{select, count_below}
 use Rattle.lists.proofs.Tests.{by-test}
@@ -31,20 +32,14 @@ listed_more xs table s n e h l = record {
   ];
 }
 
-pub listed-turn : (P : ℕ → Bool) (table table' : List ℕ) (s n : ℕ) (b : Bool) → b ≡ P n → s ≡ count_below P n → (b ≡ true → s < length table)
-    → table' ≡ cond b (set table s n) table → Listed (select P n) table → Listed (select P (n + 1)) table'
-listed-turn P table table' s n b e c h t l = rw (t, select-turn P n, ← e) (go b h)
-  where
-    go : (b : Bool) → (b ≡ true → s < length table) → Listed (select P n ++ cond b (n ∷ []) []) (cond b (set table s n) table)
-    go true k = listed_more (select P n) table s n (length-select P n ∙ sym c) (k refl) l
-    go false k = rw append-nil l
+-- line n is listed where it passes, and is counted then
+pub listed-turn : (P : ℕ → Bool) (table table' : List ℕ) (s s' n : ℕ) (b : Bool) → P n ≡ b → s ≡ count_below P n → (b ≡ true → s < length table)
+    → table' ≡ cond b (set table s n) table → s' ≡ cond b (s + 1) s → Listed (select P n) table → (s' ≡ count_below P (n + 1)) × Listed (select P (n + 1)) table'
+listed-turn P table table' s s' n true e c h t o l = (rw (o, count_below-turn P n, e, c), rw (t, select-turn P n, e) (listed_more (select P n) table s n (length-select P n ∙ sym c) (h refl) l))
+listed-turn P table table' s s' n false e c h t o l = (rw (o, count_below-turn P n, e, c) (omega arith), rw (t, select-turn P n, e, append-nil) l)
 
 pub listed-room : (room room₀ s n lines : ℕ) (P : ℕ → Bool) → count_below P lines ≤ room₀ → s ≡ count_below P n → room ≡ room₀ → n < lines → P n ≡ true → s < room
 listed-room room room₀ s n lines P all c same h e = omega (arith, count_below-less P n lines h e)
-
-pub length-turn : (table table' : List ℕ) (s n : ℕ) (b : Bool) → table' ≡ cond b (set table s n) table → length table' ≡ length table
-length-turn table table' s n true t = ap length t ∙ length-set table s n
-length-turn table table' s n false t = ap length t
 
 select-same : (P R : ℕ → Bool) (n : ℕ) → ((m : ℕ) → P m ≡ R m) → (select P n ≡ select R n) × (count_below P n ≡ count_below R n)
 unfolding select count_below
@@ -71,9 +66,18 @@ flops-listed c table lines e h = rw (e, (flops-bytes c).0) at h
 pub outputs-listed : (c table : List ℕ) (lines : ℕ) → lines ≡ N c → Listed (select (λ n. byte_is_one c 2 n) lines) table → Listed (output_lines c) table
 outputs-listed c table lines e h = rw (e, (outputs-bytes c).0) at h
 
+-- ---- a test as a number
+pub from_bool-cond : (b : Bool) → from_bool b ≡ cond b 1 0
+from_bool-cond true = refl
+from_bool-cond false = refl
+
+pub from_bool-le : (b : Bool) → from_bool b ≤ 1
+from_bool-le true = omega arith
+from_bool-le false = omega arith
+
 -- one line more is counted
-pub counted-turn : (P : ℕ → Bool) (n i one : ℕ) (b : Bool) → i ≡ count_below P n → one ≡ cond b 1 0 → b ≡ P n → i + one ≡ count_below P (n + 1)
-counted-turn P n i one b e o h = rw (count_below-turn, o, e, h)
+pub counted-turn : (P : ℕ → Bool) (n i one : ℕ) (b : Bool) → i ≡ count_below P n → one ≡ from_bool b → b ≡ P n → i + one ≡ count_below P (n + 1)
+counted-turn P n i one b e o h = rw (count_below-turn, o, from_bool-cond, e, h)
 
 -- ---- what a valid circuit gives at one line
 pub is-gate : (c : List ℕ) (n k : ℕ) → k ≡ kind c n → 2 ≤ k → is_gate c n ≡ true

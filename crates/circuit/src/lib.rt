@@ -24,6 +24,7 @@ pub struct Fault {
     pub value: u8,
 }
 
+// The bytes of a record that have names. They are numbers, since a table lists lines by any byte of theirs.
 pub const KIND: usize = 0;
 
 pub const PINS: usize = 1;
@@ -45,7 +46,7 @@ pub fn pins_of(c: &[u8], n: usize) -> usize
     requires { 12 * n + 12 ≤ length c.now }
     ensures { (result ≡ pin_count c.now n) × (result < 256) }
 {
-    basics::wide(field(c, n, PINS))
+    usize::from(field(c, n, PINS))
 }
 
 // The line that pin p, 1 to 4, names.
@@ -63,7 +64,7 @@ pub fn fault_of(fs: &[u8], j: usize) -> Fault
 {
     Fault {
         line: basics::word_at(fs, 4 * j),
-        pin: basics::wide(fs[4 * j + 2]),
+        pin: usize::from(fs[4 * j + 2]),
         value: fs[4 * j + 3],
     }
 }
@@ -73,16 +74,14 @@ pub fn sizes_of(c: &[u8], lines: usize) -> Sizes
     requires { (12 * lines ≤ length c.now) × (lines ≡ N c.now) }
     ensures { SizesOf c.now result }
 {
-    let mut inputs: usize = 0;
-    let mut flops: usize = 0;
-    let mut outputs: usize = 0;
-    let mut n: usize = 0;
-    while n < lines {
+    let mut inputs = 0;
+    let mut flops = 0;
+    let mut outputs = 0;
+    for n in 0..lines {
         let k = field(c, n, KIND);
-        inputs += basics::one_if(k == 0);
-        flops += basics::one_if(k == 1);
-        outputs += basics::one_if(field(c, n, MARK) == 1);
-        n += 1;
+        inputs += usize::from(k == 0);
+        flops += usize::from(k == 1);
+        outputs += usize::from(field(c, n, MARK) == 1);
     }
     Sizes {
         lines,
@@ -92,28 +91,17 @@ pub fn sizes_of(c: &[u8], lines: usize) -> Sizes
     }
 }
 
-// One more line number in a table of s, where `yes`; how many there are then.
-fn list_if(table: &mut [usize], s: usize, n: usize, yes: bool) -> usize
-    requires { (s ≤ 4096) × (yes ≡ true → s < length table.old) }
-    ensures { (result ≡ s + cond yes 1 0) × (table.new ≡ cond yes (set table.old s n) table.old) }
-{
-    if !yes {
-        return s;
-    }
-    table[s] = n;
-    s + 1
-}
-
 // The lines whose records have 1 in this byte.
 fn list_lines(c: &[u8], lines: usize, byte: usize, table: &mut [usize])
     requires { (12 * lines ≤ length c.now) × (lines ≤ 4096) × (byte < 12) × (count_below (λ n. byte_is_one c.now byte n) lines ≤ length table.old) }
     ensures { Listed (select (λ n. byte_is_one c.now byte n) lines) table.new }
 {
-    let mut s: usize = 0;
-    let mut n: usize = 0;
-    while n < lines {
-        s = list_if(table, s, n, c[12 * n + byte] == 1);
-        n += 1;
+    let mut s = 0;
+    for n in 0..lines {
+        if c[12 * n + byte] == 1 {
+            table[s] = n;
+            s += 1;
+        }
     }
 }
 
@@ -121,10 +109,7 @@ fn list_lines(c: &[u8], lines: usize, byte: usize, table: &mut [usize])
 fn pin_read(count: usize, p: usize) -> usize
     ensures { result ≡ pin_read count p }
 {
-    if p <= count {
-        return p;
-    }
-    1
+    if p <= count { p } else { 1 }
 }
 
 // The number by which pin p, 1 to 4, of gate n is read; 0 for a line that is no gate.
@@ -137,7 +122,7 @@ fn pin_number(c: &[u8], n: usize, p: usize) -> u16
         return 0;
     }
     let pin = pin_read(pins_of(c, n), p);
-    let number = 2 * pin_of(c, n, pin) + basics::one_if(k / 2 == 3);
+    let number = 2 * pin_of(c, n, pin) + usize::from(k / 2 == 3);
     number as u16
 }
 
@@ -146,10 +131,8 @@ fn list_pins(c: &[u8], lines: usize, table: &mut [u16])
     requires { (ValidCircuit c.now) × (lines ≡ N c.now) × (4 * lines ≤ length table.old) }
     ensures { (e : ℕ) → e < 4 * lines → is_gate c.now (e / 4) ≡ true → get_or table.new e 0 ≡ pin_number c.now (e / 4) (e % 4 + 1) }
 {
-    let mut e: usize = 0;
-    while e < 4 * lines {
+    for e in 0..4 * lines {
         table[e] = pin_number(c, e / 4, e % 4 + 1);
-        e += 1;
     }
 }
 
@@ -158,14 +141,11 @@ fn list_place(table: &mut [u16], n: usize, k: u8, i: usize, s: usize)
     requires { (4 * n < length table.old) × (i < 65536) × (s < 65536) }
     ensures { table.new ≡ cond (leb 2 k) table.old (set table.old (4 * n) (cond (eqb k 0) i s)) }
 {
-    if 2 <= k {
-        return;
+    match k {
+        0 => table[4 * n] = i as u16,
+        1 => table[4 * n] = s as u16,
+        _ => {}
     }
-    if k == 0 {
-        table[4 * n] = i as u16;
-        return;
-    }
-    table[4 * n] = s as u16;
 }
 
 // The places of all other lines.
@@ -174,15 +154,13 @@ fn list_places(c: &[u8], lines: usize, table: &mut [u16])
         × ((e : ℕ) → e < 4 * lines → is_gate c.now (e / 4) ≡ true → get_or table.old e 0 ≡ pin_number c.now (e / 4) (e % 4 + 1)) }
     ensures { PinTable c.now table.new }
 {
-    let mut i: usize = 0;
-    let mut s: usize = 0;
-    let mut n: usize = 0;
-    while n < lines {
+    let mut i = 0;
+    let mut s = 0;
+    for n in 0..lines {
         let k = field(c, n, KIND);
         list_place(table, n, k, i, s);
-        i += basics::one_if(k == 0);
-        s += basics::one_if(k == 1);
-        n += 1;
+        i += usize::from(k == 0);
+        s += usize::from(k == 1);
     }
 }
 

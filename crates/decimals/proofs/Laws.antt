@@ -7,8 +7,8 @@ use native.Mathlib.Decide.{dec_le}
 use native.Mathlib.Numerals.{add-one}
 use native.Mathlib.Nat.{mul-suc, pow-suc}
 use borrow.Author.Tests.{lt-ltb, le-ltb}
-use lib.ListN.{length, take, drop, get_or, set, length-append, drop_of_length-le}
-use lib.Seq.{drop-cons, take-suc-set}
+use lib.ListN.{length, take, drop, get_or, length-append, drop_of_length-le}
+use lib.Seq.{drop-cons, take_at, length-take-le}
 use Rattle.model.specs.Listing.{digits, decimal, number_line}
 use Rattle.decimals.specs.Put.{Below, Put}
 
@@ -72,9 +72,6 @@ line-short w (x ∷ y ∷ xs) h a =
     (arith, length-append (decimal x) (32 ∷ number_line (y ∷ xs)), decimal-short w x a.0, line-short w (y ∷ xs) (omega arith) a.1, mul-suc (suc (suc w)) (suc (length xs)))
 
 -- ---- what is appended
-pub put-set : (at byte : ℕ) (old : List ℕ) → at < length old → Put at (at + 1) (byte ∷ []) old (set old at byte)
-put-set at byte old h = record { end = refl; bytes = rw add-one (take-suc-set old at byte h) }
-
 pub put_then : {at m r : ℕ} {a b old mid out : List ℕ} → Put at m a old mid → Put m r b mid out → Put at r (a ++ b) old out
 put_then {at} {a = a} {b = b} {old = old} p q = record {
   end = omega (arith, p.end, q.end, length-append a b);
@@ -89,8 +86,13 @@ field_end n byte p = omega (arith, p.end, length-append (decimal n) (byte ∷ []
 pub record Completes (from at : ℕ) (rest all old mid : List ℕ) : Type 0 where
   pub by : (r : ℕ) (out : List ℕ) → Put at r rest mid out → Put from r all old out
 
-pub completes_first : (at : ℕ) (all old : List ℕ) → Completes at at all all old old
-completes_first at all old = record { by = λ r out p. p }
-
 pub completes_more : {from at m : ℕ} {rest new left all old mid out : List ℕ} → rest ≡ new ++ left → Completes from at rest all old mid → Put at m new mid out → Completes from m left all old out
 completes_more e c p = record { by = λ r end q. c.by r end (rw e (put_then p q)) }
+
+-- text that is copied behind what stands there
+pub put-copied : {from : ℕ} {text copied old : List ℕ} (rest : List ℕ) → from ≤ length old → copied ≡ text → Put from (from + length text) text old (take from old ++ (copied ++ rest))
+put-copied {from} {text} {copied} {old} rest h e = record {
+  end = refl;
+  bytes =
+      rw (e, ← append_assoc (take from old) text rest) (take_at (take from old ++ text) rest _ (length-append (take from old) text ∙ ap (λ n. n + length text) (length-take-le from old h)));
+}

@@ -1,4 +1,4 @@
-// Numbers in decimal, appended to a print: one, one with the byte that follows it, and a line of them.
+// What is appended to a print: a byte, a text, a number in decimal, one with the byte that follows it, and a line of numbers.
 #![tactic(auto)]
 
 ghost use Rattle.std.specs.Prelude.{[], ◌∷◌, ◌++◌, ◌+◌, ◌%◌, ◌<◌, ◌≤◌, length};
@@ -14,6 +14,16 @@ pub fn put_byte(out: &mut [u8], at: usize, byte: u8) -> usize
     at + 1
 }
 
+// Bytes as they are.
+pub fn put_text(out: &mut [u8], at: usize, text: &[u8]) -> usize
+    requires { at + length text.now ≤ length out.old }
+    ensures { Put at result text.now out.old out.new }
+{
+    let end = at + text.len();
+    out[at..end].copy_from_slice(text);
+    end
+}
+
 // The last digit of a number.
 fn put_digit(out: &mut [u8], at: usize, n: usize) -> usize
     requires { at < length out.old }
@@ -22,7 +32,7 @@ fn put_digit(out: &mut [u8], at: usize, n: usize) -> usize
     put_byte(out, at, 48 + (n % 10) as u8)
 }
 
-// A number: what stands before its last digit, and that digit.
+// A number: what stands before its last digit, and that digit. Its contract says the bytes, which those of `Display` do not.
 pub fn put_number(out: &mut [u8], at: usize, n: usize) -> usize
     requires { at + length (decimal n) ≤ length out.old }
     ensures { Put at result (decimal n) out.old out.new }
@@ -50,10 +60,8 @@ pub fn put_line(out: &mut [u8], from: usize, fields: &[usize]) -> usize
 {
     let last = fields.len() - 1;
     let mut at = from;
-    let mut i: usize = 0;
-    while i < last {
-        at = put_field(out, at, fields[i], b' ');
-        i += 1;
+    for n in &fields[..last] {
+        at = put_field(out, at, *n, b' ');
     }
-    put_field(out, at, fields[i], b'\n')
+    put_field(out, at, fields[last], b'\n')
 }

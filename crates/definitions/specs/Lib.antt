@@ -1,2 +1,3 @@
 -- What the contracts say.
 pub mod Reached
+pub mod Tables

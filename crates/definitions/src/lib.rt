@@ -7,9 +7,12 @@ ghost use Rattle.bench_text.specs.Text.{same};
 ghost use Rattle.bench_text.specs.Bench.{named, line_named};
 ghost use Rattle.lookup.specs.Lookup.{Held};
 ghost use Rattle.definitions.specs.Reached.{Reached, Collected};
+ghost use Rattle.definitions.specs.Tables.{HeldAs};
 
 use lookup::HELD;
-use tokens::PARTS;
+use parts::NO_PART;
+use sentences::Sort;
+use tokens::KEPT;
 
 // How many lines a text defines, how many of them are held, and where the text line behind the last of those begins.
 #[derive(Clone, Copy)]
@@ -24,22 +27,23 @@ pub fn collect(text: &[u8], names: &mut [usize], heads: &mut [usize]) -> Known
     requires { Held text.now names.old heads.old 0 }
     ensures { Collected text.now names.new heads.new result }
 {
-    let mut parts = [0usize; PARTS];
+    let mut parts = [NO_PART; KEPT];
     let mut at: usize = 0;
     let mut lines: usize = 0;
     let mut held: usize = 0;
     let mut rest: usize = 0;
+    // Each text line tells where the next begins.
     while at < text.len() {
         let line = sentences::read_line(text, at, &mut parts);
         at = line.next;
-        if 9 < line.sort {
+        let Sort::Defines(_) = line.sort else {
             continue;
-        }
+        };
         lines += 1;
         if HELD <= held {
             continue;
         }
-        lookup::hold(text, names, heads, held, line.at, line.size);
+        lookup::hold(text, names, heads, held, line.name);
         held += 1;
         rest = line.next;
     }
@@ -52,18 +56,17 @@ fn find_behind(text: &[u8], from: usize, n: usize, name: &[u8]) -> usize
     requires by_index_2 { (j : ℕ) × Reached text.now j from n }
     ensures { result ≡ line_named text.now name.now }
 {
-    let mut parts = [0usize; PARTS];
+    let mut parts = [NO_PART; KEPT];
     let mut at = from;
     let mut line = n;
+    // Each text line tells where the next begins.
     while at < text.len() {
         let said = sentences::read_line(text, at, &mut parts);
         at = said.next;
-        if 9 < said.sort {
+        let Sort::Defines(_) = said.sort else {
             continue;
-        }
-        let start = said.at;
-        let end = start + said.size;
-        if parts::same(&text[start..end], name) {
+        };
+        if parts::same(said.name.bytes(text), name) {
             return line;
         }
         line += 1;
@@ -71,14 +74,25 @@ fn find_behind(text: &[u8], from: usize, n: usize, name: &[u8]) -> usize
     line
 }
 
-// The line with this name, the lowest where there are several; the number of lines where there is none.
-pub fn find(text: &[u8], names: &[usize], heads: &[usize], known: Known, name: &[u8]) -> usize
-    requires { Collected text.now names.now heads.now known }
-    ensures { result ≡ line_named text.now name.now }
-{
-    let found = lookup::find(text, names, heads, known.held, name);
-    if found < known.held {
-        return found;
+// The lines that a text defines, held in tables.
+#[derive(Clone, Copy)]
+pub struct Definitions<'a> {
+    pub text: &'a [u8],
+    pub names: &'a [usize],
+    pub heads: &'a [usize],
+    pub known: Known,
+}
+
+impl<'a> Definitions<'a> {
+    // The line with this name, the lowest where there are several; the number of lines where there is none, which is how a pin's line is told
+    // (`LineChecked` of bench_line, by `line_named`): what is out of reach and what is not there are refused alike.
+    pub fn find(self, name: &[u8]) -> usize
+        requires { HeldAs self }
+        ensures { result ≡ line_named self.entry.text.now name.now }
+    {
+        match lookup::find(self.text, self.names, self.heads, self.known.held, name) {
+            Some(n) => n,
+            None => find_behind(self.text, self.known.rest, self.known.held, name),
+        }
     }
-    find_behind(text, known.rest, known.held, name)
 }

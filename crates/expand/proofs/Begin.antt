@@ -1,6 +1,7 @@
 -- Where the walk begins, which pairs it tries, and that it may stop.
+use Rattle.std.specs.Prelude.{None, is_some}
 use mathlib.Core.Path.{◌≡◌, refl, sym, ap, ◌∙◌}
-use mathlib.Core.Bool.{false, cond, ◌&&◌, and-false, and-true}
+use mathlib.Core.Bool.{true, false, cond, ◌&&◌, and-false, and-true}
 use mathlib.Core.List.{List}
 use Prim.Native.Nat.{ℕ, zero, suc, ◌+◌, ◌*◌, ◌-◌, ◌/◌, ◌%◌, ◌<◌, ◌≤◌}
 use native.Mathlib.Omega.{arith}
@@ -21,7 +22,7 @@ use Rattle.pending.specs.Pending.{OpenUnits}
 use Rattle.expand.specs.declared.Walk.{Walk}
 use Rattle.expand.specs.Expand.{is_x, row_to, TriedTo, Walked}
 use Rattle.expand.proofs.Place.{position, place-below, unit-inside, first-unit, table_at, row_copied}
-use Rattle.expand.proofs.Steps.{untried_both, untried_written}
+use Rattle.expand.proofs.Steps.{one-only, some-none, untried_both, untried_written}
 use Rattle.expand.proofs.Turn.{turn-nothing}
 
 -- where the walk ends
@@ -114,15 +115,15 @@ module _ (c t : List ℕ) (f : Fault) where
             (λ k q. absurd (let many : F c * suc (e / F c) ≤ F c * L c t = mul-le-mul_left (F c) unit in (let z : ⊥ = omega (arith, position (F c) e, place-below (F c) e width, mul-suc (F c) (e / F c)) in z)))
 
   -- ---- positions at which no pair is tried
-  pub walk-idle : (end e k : ℕ) (list : List ℕ) (w : Walk) → ((j : ℕ) → e ≤ j → j < e + k → tried c t f (j / F c) (j % F c) ≡ false) → e + k ≤ L c t * F c
-      → Walked c t f end e list w → Walked c t f end (e + k) list w
-  walk-idle end e zero list w off h old = let same : e + 0 ≡ e = omega arith in rw same old
-  walk-idle end e (suc k) list w off h old =
+  pub walk-idle : (e k : ℕ) (list : List ℕ) (w : Walk) → ((j : ℕ) → e ≤ j → j < e + k → tried c t f (j / F c) (j % F c) ≡ false) → e + k ≤ L c t * F c
+      → Walked c t f e list w → Walked c t f (e + k) list w
+  walk-idle e zero list w off h old = let same : e + 0 ≡ e = omega arith in rw same old
+  walk-idle e (suc k) list w off h old =
       let more : e + suc k ≡ (e + k) + 1 = omega arith in
       let here : tried c t f ((e + k) / F c) ((e + k) % F c) ≡ false = off (e + k) (omega arith) (omega arith) in
       let width : 0 < F c = factor-some (F c) (L c t) (e + k) (omega (arith, mul_comm (F c) (L c t))) in
       rw more
-      (turn-nothing c t f end (e + k) list w width (unit-inside (F c) (L c t) (e + k) width (omega arith)) (walk-idle end e k list w (λ j a b. off j a (omega arith)) (omega arith) old) (untried_both c t f _ _ here)
+      (turn-nothing c t f (e + k) list w width (unit-inside (F c) (L c t) (e + k) width (omega arith)) (walk-idle e k list w (λ j a b. off j a (omega arith)) (omega arith) old) (untried_both c t f _ _ here)
       (untried_written c t f _ _ here))
 
   -- ---- the beginning
@@ -133,46 +134,43 @@ module _ (c t : List ℕ) (f : Fault) where
     | no h ↦ (let none : 0 - F c * u ≡ 0 = omega arith in rw (lt-leb (F c * u + F c) 0 (omega arith), none))
   ]
 
-  pub walk_start : (end : ℕ) (list : List ℕ) → ValidTest c t → ValidFault c f → Rows (F c) (L c t) list (λ u. plain_state c t f u) → Walked c t f end 0 list record { both = end; opposed = end }
-  walk_start end list test fault rows = record {
-    met = λ h. absurd (let z : ⊥ = omega arith in z);
+  pub walk_start : (list : List ℕ) → ValidTest c t → ValidFault c f → Rows (F c) (L c t) list (λ u. plain_state c t f u) → Walked c t f 0 list record { both = None; opposed = None }
+  walk_start list test fault rows = record {
+    met = λ p h. one-only h refl;
     unmet = λ h j l. absurd (let z : ⊥ = omega arith in z);
-    opposed = λ h k. absurd (let z : ⊥ = omega arith in z);
+    opposed = λ h p k. one-only k refl;
     unopposed = λ h k j l. absurd (let z : ⊥ = omega arith in z);
     rows = λ h k. record { at = λ u l. rows.at u l ∙ sym (start-row u) };
     three = λ h k u l. rw (start-row u) (unfold plain_state in state_at-three c f (omega (arith, fault.value)) t (power_up c) u test.bytes (power_up-three c));
   }
 
   -- a pair with both values marked ends the walk, wherever it stands
-  pub walk-met : (none e : ℕ) (list : List ℕ) (w : Walk) → none ≡ L c t * F c → w.both < none → Walked c t f none e list w → Walked c t f (L c t * F c) (L c t * F c) list w
-  walk-met none e list w en h old = rw en at (over none e (L c t * F c) h old)
-    where
-      over : (none e e' : ℕ) → w.both < none → Walked c t f none e list w → Walked c t f none e' list w
-      over none e e' h old = record {
-        met = old.met;
-        unmet = λ l. absurd (let z : ⊥ = omega arith in z);
-        opposed = λ l. absurd (let z : ⊥ = omega arith in z);
-        unopposed = λ l. absurd (let z : ⊥ = omega arith in z);
-        rows = λ l. absurd (let z : ⊥ = omega arith in z);
-        three = λ l. absurd (let z : ⊥ = omega arith in z);
-      }
+  pub walk-met : (e : ℕ) (list : List ℕ) (w : Walk) → is_some w.both ≡ true → Walked c t f e list w → Walked c t f (L c t * F c) list w
+  walk-met e list w h old = record {
+    met = old.met;
+    unmet = λ l. some-none w.both h l;
+    opposed = λ l. some-none w.both h l;
+    unopposed = λ l. some-none w.both h l;
+    rows = λ l. some-none w.both h l;
+    three = λ l. some-none w.both h l;
+  }
 
   -- the walk from its end to the last pair
-  pub walk-last : (none end at : ℕ) (list states : List ℕ) (w : Walk) → none ≡ L c t * F c → at ≡ end → TriedTo c t f end states → Walked c t f none at list w → Walked c t f (L c t * F c) (L c t * F c) list w
-  walk-last none end at list states w en ea tried old =
+  pub walk-last : (end at : ℕ) (list states : List ℕ) (w : Walk) → at ≡ end → TriedTo c t f end states → Walked c t f at list w → Walked c t f (L c t * F c) list w
+  walk-last end at list states w ea tried old =
       let far : end + (L c t * F c - end) ≡ L c t * F c = omega (arith, tried.most) in
-      let reached : Walked c t f none (end + (L c t * F c - end)) list w = walk-idle none end (L c t * F c - end) list w (λ j a b. tried.behind j a (omega arith)) (omega arith) (rw ea at old) in
-      rw (far, en) at reached
+      let reached : Walked c t f (end + (L c t * F c - end)) list w = walk-idle end (L c t * F c - end) list w (λ j a b. tried.behind j a (omega arith)) (omega arith) (rw ea at old) in
+      rw far at reached
 
   -- the walk at the first pair that may be tried, over a copy of the plain states
-  pub walk-begun : (width none : ℕ) (states list list' : List ℕ) (n : ℕ) → ValidTest c t → ValidFault c f → Rows (F c) (L c t) states (λ u. plain_state c t f u) → width ≡ F c → width ≤ L c t * F c
+  pub walk-begun : (width : ℕ) (states list list' : List ℕ) (n : ℕ) → ValidTest c t → ValidFault c f → Rows (F c) (L c t) states (λ u. plain_state c t f u) → width ≡ F c → width ≤ L c t * F c
       → ((e : ℕ) → e < F c → tried c t f (e / F c) (e % F c) ≡ false) → n ≡ L c t * F c → L c t * F c ≤ length states → list' ≡ overwritten (take n states) list
-      → Walked c t f none width list' record { both = none; opposed = none }
-  walk-begun width none states list list' n test fault plain es wide off en room copy =
-      let began = walk_start none list' test fault record {
+      → Walked c t f width list' record { both = None; opposed = None }
+  walk-begun width states list list' n test fault plain es wide off en room copy =
+      let began = walk_start list' test fault record {
         at = λ u h.
             let fits : F c * u + F c ≤ L c t * F c = row_fits (F c) u (L c t) h in
             ap (λ l. row_of (F c) l u) copy ∙ row_copied (F c) n u states list (omega arith) (omega arith) ∙ plain.at u h;
       } in
       let far : 0 + F c ≡ width = omega arith in
-      rw far at (walk-idle none 0 (F c) list' _ (λ j a b. off j (omega arith)) (omega arith) began)
+      rw far at (walk-idle 0 (F c) list' _ (λ j a b. off j (omega arith)) (omega arith) began)

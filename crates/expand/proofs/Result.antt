@@ -1,4 +1,5 @@
 -- What the walk says of stages 3 and 4, once it stands behind the last pair.
+use Rattle.std.specs.Prelude.{Some, None}
 use mathlib.Core.Path.{◌≡◌, refl, ◌∙◌}
 use mathlib.Core.Bool.{Bool, true, false}
 use mathlib.Core.List.{List}
@@ -16,7 +17,7 @@ use Rattle.model.specs.Inputs.{flip_flop_line, F, L, Fault}
 use Rattle.model.specs.Expansion.{both_marked, opposed_write, state_row}
 use Rattle.model.specs.Grade.{placed, at_pair, stage3, stage4}
 use Rattle.expand.specs.declared.Walk.{Walk}
-use Rattle.expand.specs.Expand.{both_at, writes_at, row_to, Walked}
+use Rattle.expand.specs.Expand.{Before, both_at, writes_at, row_to, Walked}
 use Rattle.expand.proofs.Place.{unit-of, place_of, unit-inside, position, place-below}
 
 -- ---- the first pair, by positions
@@ -54,7 +55,7 @@ module _ (P : ℕ → ℕ → Bool) (b : ℕ) where
         (λ j l. at (e / b) j false (omega (arith, place-below b e some-place)) (before (b * (e / b) + j) (omega (arith, position b e))))
 
 -- ---- stages 3 and 4
-module _ (c t : List ℕ) (f : Fault) (list : List ℕ) (w : Walk) (walked : Walked c t f (L c t * F c) (L c t * F c) list w) where
+module _ (c t : List ℕ) (f : Fault) (list : List ℕ) (w : Walk) (walked : Walked c t f (L c t * F c) list w) (inside : Before (L c t * F c) w) where
   -- none of all positions
   none_of : (P : ℕ → ℕ → Bool) → ((e : ℕ) → e < L c t * F c → P (e / F c) (e % F c) ≡ false) → first_pair P (L c t) (F c) ≡ none
   none_of P h = elim (dec_le 1 (F c)) [
@@ -68,26 +69,28 @@ module _ (c t : List ℕ) (f : Fault) (list : List ℕ) (w : Walk) (walked : Wal
     | no g ↦ (let zero : F c ≡ 0 = omega arith in let low : e < L c t * 0 = (rw zero at h) in absurd (let z : ⊥ = omega (arith, mul_comm (L c t) 0) in z))
   ]
 
-  pub stage3-met : w.both < L c t * F c → stage3 c t f ≡ some (placed 2 (w.both / F c) (flip_flop_line c (w.both % F c)))
+  pub stage3-met : (p : ℕ) → w.both ≡ Some p → stage3 c t f ≡ some (placed 2 (p / F c) (flip_flop_line c (p % F c)))
   unfolding stage3 at_pair both_at
-  stage3-met h =
-      let met = walked.met h in
-      rw (positions-first (λ u i. both_marked c t f u i) (F c) (L c t) (some-flop w.both h) w.both h met.0 met.1)
+  stage3-met p h =
+      let met = walked.met p h in
+      let low = inside.both p h in
+      rw (positions-first (λ u i. both_marked c t f u i) (F c) (L c t) (some-flop p low) p low met.0 met.1)
 
-  pub stage3-none : L c t * F c ≤ w.both → stage3 c t f ≡ none
+  pub stage3-none : w.both ≡ None → stage3 c t f ≡ none
   unfolding stage3 at_pair both_at
   stage3-none h = rw (none_of (λ u i. both_marked c t f u i) (walked.unmet h))
 
-  pub stage4-met : L c t * F c ≤ w.both → w.opposed < L c t * F c → stage4 c t f ≡ some (placed 2 (w.opposed / F c) (flip_flop_line c (w.opposed % F c)))
+  pub stage4-met : w.both ≡ None → (p : ℕ) → w.opposed ≡ Some p → stage4 c t f ≡ some (placed 2 (p / F c) (flip_flop_line c (p % F c)))
   unfolding stage4 at_pair writes_at
-  stage4-met h k =
-      let met = walked.opposed h k in
-      rw (positions-first (λ u i. opposed_write c t f u i) (F c) (L c t) (some-flop w.opposed k) w.opposed k met.0 met.1)
+  stage4-met h p k =
+      let met = walked.opposed h p k in
+      let low = inside.opposed p k in
+      rw (positions-first (λ u i. opposed_write c t f u i) (F c) (L c t) (some-flop p low) p low met.0 met.1)
 
-  pub stage4-none : L c t * F c ≤ w.both → L c t * F c ≤ w.opposed → stage4 c t f ≡ none
+  pub stage4-none : w.both ≡ None → w.opposed ≡ None → stage4 c t f ≡ none
   unfolding stage4 at_pair writes_at
   stage4-none h k = rw (none_of (λ u i. opposed_write c t f u i) (walked.unopposed h k))
 
-  pub list-rows : L c t * F c ≤ w.both → L c t * F c ≤ w.opposed → Rows (F c) (L c t) list (λ u. state_row c t f u)
+  pub list-rows : w.both ≡ None → w.opposed ≡ None → Rows (F c) (L c t) list (λ u. state_row c t f u)
   unfolding row_to state_row
   list-rows h k = record { at = λ u l. (walked.rows h k).at u l ∙ rw (le-leb (F c * u + F c) (L c t * F c) (row_fits (F c) u (L c t) l)) }

@@ -1,5 +1,6 @@
 -- One position of the walk: what its pair writes, and where the walk then stands.
-use mathlib.Core.Path.{◌≡◌, ap}
+use mathlib.Core.Path.{◌≡◌, refl, ap}
+use Rattle.std.specs.Prelude.{Option, Some, None, is_some}
 use mathlib.Core.Bool.{Bool, true, false, ◌&&◌, and-false}
 use mathlib.Core.List.{List}
 use Prim.Native.Nat.{ℕ, suc, ◌+◌, ◌*◌, ◌-◌, ◌/◌, ◌%◌, ◌<◌, ◌≤◌}
@@ -16,6 +17,22 @@ use Rattle.model.specs.Expansion.{tried, both_marked, alone, written, row_after}
 use Rattle.expand.specs.declared.Walk.{Walk}
 use Rattle.expand.specs.Expand.{both_at, writes_at, row_to, Walked}
 use Rattle.expand.proofs.Place.{position, place-below}
+
+-- ---- a position, or none
+pub one-only : {A : Type 0} {o : Option ℕ} {p : ℕ} → o ≡ Some p → o ≡ None → A
+one-only h k = absurd (let z : ⊥ = cc in z)
+
+pub by-option : {A : Type 0} (o : Option ℕ) → (o ≡ None → A) → ((p : ℕ) → o ≡ Some p → A) → A
+by-option None absent present = absent refl
+by-option (Some p) absent present = present p refl
+
+pub some-none : {A : Type 0} (o : Option ℕ) → is_some o ≡ true → o ≡ None → A
+some-none None h k = absurd (let z : ⊥ = cc in z)
+some-none (Some p) h k = one-only refl k
+
+pub none-of : (o : Option ℕ) → is_some o ≡ false → o ≡ None
+none-of None h = refl
+none-of (Some p) h = absurd (let z : ⊥ = cc in z)
 
 module _ (c t : List ℕ) (f : Fault) where
   -- ---- what a pair does, by its marks
@@ -89,59 +106,48 @@ module _ (c t : List ℕ) (f : Fault) where
     ]
 
   -- ---- where the walk stands
-  module _ (end e : ℕ) (list : List ℕ) (w : Walk) (old : Walked c t f end e list w) where
+  module _ (e : ℕ) (list : List ℕ) (w : Walk) (old : Walked c t f e list w) where
     -- a number below e + 1 is e or is below e
     upto : (P : ℕ → Bool) → ((j : ℕ) → j < e → P j ≡ false) → P e ≡ false → (j : ℕ) → j < e + 1 → P j ≡ false
     upto P h n j l = elim (dec_le (suc j) e) [ yes g ↦ h j g | no g ↦ (let last : j ≡ e = omega arith in rw last n) ]
 
-    -- a pair with both values marked was met before
-    pub walked-over : (list' : List ℕ) → w.both < end → Walked c t f end (e + 1) list' w
-    walked-over list' h = record {
-      met = old.met;
-      unmet = λ l. absurd (let z : ⊥ = omega arith in z);
-      opposed = λ l. absurd (let z : ⊥ = omega arith in z);
-      unopposed = λ l. absurd (let z : ⊥ = omega arith in z);
-      rows = λ l. absurd (let z : ⊥ = omega arith in z);
-      three = λ l. absurd (let z : ⊥ = omega arith in z);
-    }
-
     -- this pair has both values marked
-    pub walked_both : (list' : List ℕ) → end ≤ w.both → e < end → both_at c t f e ≡ true → Walked c t f end (e + 1) list' record { both = e; opposed = w.opposed }
-    walked_both list' l h b = record {
-      met = λ g. (b, old.unmet l);
-      unmet = λ g. absurd (let z : ⊥ = omega arith in z);
-      opposed = λ g. absurd (let z : ⊥ = omega arith in z);
-      unopposed = λ g. absurd (let z : ⊥ = omega arith in z);
-      rows = λ g. absurd (let z : ⊥ = omega arith in z);
-      three = λ g. absurd (let z : ⊥ = omega arith in z);
+    pub walked_both : (list' : List ℕ) → w.both ≡ None → both_at c t f e ≡ true → Walked c t f (e + 1) list' record { both = Some e; opposed = w.opposed }
+    walked_both list' l b = record {
+      met = λ p g. let same : e ≡ p = cc in rw (← same) (b, old.unmet l);
+      unmet = λ g. one-only refl g;
+      opposed = λ g. one-only refl g;
+      unopposed = λ g. one-only refl g;
+      rows = λ g. one-only refl g;
+      three = λ g. one-only refl g;
     }
 
     -- a write opposed before
-    pub walked-past : (list' : List ℕ) → both_at c t f e ≡ false → w.opposed < end → Walked c t f end (e + 1) list' w
-    walked-past list' b h = record {
+    pub walked-past : (list' : List ℕ) (p : ℕ) → both_at c t f e ≡ false → w.opposed ≡ Some p → Walked c t f (e + 1) list' w
+    walked-past list' p b h = record {
       met = old.met;
       unmet = λ l. upto (both_at c t f) (old.unmet l) b;
       opposed = old.opposed;
-      unopposed = λ l g. absurd (let z : ⊥ = omega arith in z);
-      rows = λ l g. absurd (let z : ⊥ = omega arith in z);
-      three = λ l g. absurd (let z : ⊥ = omega arith in z);
+      unopposed = λ l g. one-only h g;
+      rows = λ l g. one-only h g;
+      three = λ l g. one-only h g;
     }
 
     -- this write opposes
-    pub walked-opposed : (list' : List ℕ) → both_at c t f e ≡ false → end ≤ w.opposed → e < end → writes_at c t f e ≡ true → Walked c t f end (e + 1) list' record { both = w.both; opposed = e }
-    walked-opposed list' b l h o = record {
+    pub walked-opposed : (list' : List ℕ) → both_at c t f e ≡ false → w.opposed ≡ None → writes_at c t f e ≡ true → Walked c t f (e + 1) list' record { both = w.both; opposed = Some e }
+    walked-opposed list' b l o = record {
       met = old.met;
       unmet = λ g. upto (both_at c t f) (old.unmet g) b;
-      opposed = λ g k. (o, old.unopposed g l);
-      unopposed = λ g k. absurd (let z : ⊥ = omega arith in z);
-      rows = λ g k. absurd (let z : ⊥ = omega arith in z);
-      three = λ g k. absurd (let z : ⊥ = omega arith in z);
+      opposed = λ g p k. let same : e ≡ p = cc in rw (← same) (o, old.unopposed g l);
+      unopposed = λ g k. one-only refl k;
+      rows = λ g k. one-only refl k;
+      three = λ g k. one-only refl k;
     }
 
     -- this write, if there is one, is made
     pub walked-written : (list' : List ℕ) → both_at c t f e ≡ false → writes_at c t f e ≡ false
-        → (end ≤ w.both → end ≤ w.opposed → Rows (F c) (L c t) list' (λ u. row_to c t f (e + 1) u) × ((u : ℕ) → u < L c t → ThreeValued (row_to c t f (e + 1) u)))
-        → Walked c t f end (e + 1) list' w
+        → (w.both ≡ None → w.opposed ≡ None → Rows (F c) (L c t) list' (λ u. row_to c t f (e + 1) u) × ((u : ℕ) → u < L c t → ThreeValued (row_to c t f (e + 1) u)))
+        → Walked c t f (e + 1) list' w
     walked-written list' b o made = record {
       met = old.met;
       unmet = λ l. upto (both_at c t f) (old.unmet l) b;

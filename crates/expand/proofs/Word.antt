@@ -1,15 +1,17 @@
 -- The pairs that fill a word.
-use mathlib.Core.Path.{◌≡◌, sym, ap, ◌∙◌}
+use mathlib.Core.Path.{◌≡◌, sym, ◌∙◌}
 use mathlib.Core.Bool.{true, false, cond}
 use mathlib.Core.List.{List}
-use Prim.Native.Nat.{ℕ, zero, suc, ◌+◌, ◌-◌, ◌/◌, ◌%◌, ◌<◌, ◌≤◌}
+use Prim.Native.Nat.{ℕ, zero, suc, ◌+◌, ◌-◌, ◌<◌, ◌≤◌}
 use native.Mathlib.Omega.{arith}
 use native.Mathlib.Decide.{dec_le}
-use lib.ListN.{get_or, length, set}
+use lib.ListN.{length, set}
 use lib.Seq.{get_or-set_same, get_or-set_other}
 use Rattle.lists.specs.Scan.{count_below}
 use Rattle.lists.proofs.Tests.{by-test, clash}
-use Rattle.expand.specs.Expand.{is_x, pair_at, Filled}
+use Rattle.trial.specs.declared.Pair.{Pair}
+use Rattle.trial.specs.Trial.{pair_of}
+use Rattle.expand.specs.Expand.{is_x, pair_at, pair_for, Filled}
 
 module _ (states : List ℕ) (at : ℕ) where
   pub pair-none : pair_at states at at ≡ 0
@@ -42,24 +44,22 @@ module _ (states : List ℕ) (at : ℕ) where
       omega arith
 
 module _ (size : ℕ) (states : List ℕ) (at : ℕ) where
-  pub filled_none : (units bits : List ℕ) → Filled size states units bits at at 0
-  filled_none units bits = record {
+  pub filled_none : (pairs : List Pair) → Filled size states pairs at at 0
+  filled_none pairs = record {
     order = omega arith;
     all = sym (pair-none states at);
     few = omega arith;
-    unit = λ e h l x. absurd (let z : ⊥ = omega arith in z);
-    bit = λ e h l x. absurd (let z : ⊥ = omega arith in z);
+    pair = λ e h l x. absurd (let z : ⊥ = omega arith in z);
     below = λ p h. absurd (let z : ⊥ = omega arith in z);
   }
 
-  module _ (units bits : List ℕ) (e count : ℕ) (room : count < 32) (old : Filled size states units bits at e count) where
-    skipped : is_x states e ≡ false → Filled size states units bits at (e + 1) count
+  module _ (pairs : List Pair) (e count : ℕ) (room : count < 32) (old : Filled size states pairs at e count) where
+    skipped : is_x states e ≡ false → Filled size states pairs at (e + 1) count
     skipped n = record {
       order = omega (arith, old.order);
       all = old.all ∙ sym (pair_turn states at e old.order ∙ rw n (let z : pair_at states at e + 0 ≡ pair_at states at e = omega arith in z));
       few = omega arith;
-      unit = λ g h l x. old.unit g h (earlier g l x) x;
-      bit = λ g h l x. old.bit g h (earlier g l x) x;
+      pair = λ g h l x. old.pair g h (earlier g l x) x;
       below = λ p h. let found = old.below p h in (found.0, found.1, omega (arith, found.2), found.3, found.4);
     }
       where
@@ -69,37 +69,27 @@ module _ (size : ℕ) (states : List ℕ) (at : ℕ) where
           | no q ↦ (let here : g ≡ e = omega arith in clash (is_x states e) (rw here at x) n)
         ]
 
-    -- place `count` of a list is set to v, where the value of an earlier pair's place stays
-    module _ (xs : List ℕ) (value : ℕ → ℕ) (long : count < length xs) (x : is_x states e ≡ true)
-        (kept : (g : ℕ) → at ≤ g → g < e → is_x states g ≡ true → get_or xs (pair_at states at g) 0 ≡ value g) where
-      one_more : (g : ℕ) → at ≤ g → g < e + 1 → is_x states g ≡ true → get_or (set xs count (value e)) (pair_at states at g) 0 ≡ value g
-      one_more g h l y = elim (dec_le (suc g) e) [
-        | yes q ↦ get_or-set_other xs count (pair_at states at g) (value e) 0 (λ s. (let z : ⊥ = omega (arith, pair-lower states at g e h q y, old.all) in z)) ∙ kept g h q y
-        | no q ↦ (let here : g ≡ e = omega arith in rw (here, ← old.all) (get_or-set_same xs count (value e) 0 long))
-      ]
+    -- place `count` is set, where the pairs before it stay
+    one_more : count < length pairs → is_x states e ≡ true → (g : ℕ) → at ≤ g → g < e + 1 → is_x states g ≡ true → pair_of (set pairs count (pair_for size e)) (pair_at states at g) ≡ pair_for size g
+    one_more long x g h l y = elim (dec_le (suc g) e) [
+      | yes q ↦ get_or-set_other pairs count (pair_at states at g) (pair_for size e) _ (λ s. (let z : ⊥ = omega (arith, pair-lower states at g e h q y, old.all) in z)) ∙ old.pair g h q y
+      | no q ↦ (let here : g ≡ e = omega arith in rw (here, ← old.all) (get_or-set_same pairs count (pair_for size e) _ long))
+    ]
 
-    added : count < length units → count < length bits → is_x states e ≡ true → Filled size states (set units count (e / size - 1)) (set bits count (e % size)) at (e + 1) (count + 1)
-    added lu lb x = record {
+    added : count < length pairs → is_x states e ≡ true → Filled size states (set pairs count (pair_for size e)) at (e + 1) (count + 1)
+    added long x = record {
       order = omega (arith, old.order);
       all = sym (pair_turn states at e old.order ∙ rw (x, old.all));
       few = omega arith;
-      unit = one_more units (λ g. g / size - 1) lu x old.unit;
-      bit = one_more bits (λ g. g % size) lb x old.bit;
+      pair = one_more long x;
       below = λ p h. elim (dec_le (suc p) count) [
         | yes q ↦ (let found = old.below p q in (found.0, found.1, omega (arith, found.2), found.3, found.4))
         | no q ↦ (let last : p ≡ count = omega arith in (e, old.order, omega arith, x, sym old.all ∙ sym last))
       ];
     }
 
-    pub filled-turn : (units' bits' : List ℕ) (r : ℕ) → count < length units → count < length bits → r ≡ count + cond (is_x states e) 1 0
-        → units' ≡ cond (is_x states e) (set units count (e / size - 1)) units → bits' ≡ cond (is_x states e) (set bits count (e % size)) bits → Filled size states units' bits' at (e + 1) r
-    filled-turn units' bits' r lu lb er eu eb = by-test (is_x states e)
-        (λ x. rw (er, eu, eb, x) (added lu lb x))
-        (λ n. rw (er, eu, eb, n) (let same : count + 0 ≡ count = omega arith in rw same (skipped n)))
-
--- a word that has a pair has gone on
-pub begun : (size : ℕ) (states units bits : List ℕ) (at next : ℕ) {count : ℕ} → Filled size states units bits at next count → 0 < count → at < next
-begun size states units bits at next filled some = elim (dec_le (suc at) next) [
-  | yes h ↦ h
-  | no h ↦ (let here : next ≡ at = omega (arith, filled.order) in absurd (let z : ⊥ = omega (arith, filled.all ∙ ap (pair_at states at) here ∙ pair-none states at) in z))
-]
+    pub filled-turn : (pairs' : List Pair) (r : ℕ) → count < length pairs → r ≡ count + cond (is_x states e) 1 0 → pairs' ≡ cond (is_x states e) (set pairs count (pair_for size e)) pairs
+        → Filled size states pairs' at (e + 1) r
+    filled-turn pairs' r long er ep = by-test (is_x states e)
+        (λ x. rw (er, ep, x) (added long x))
+        (λ n. rw (er, ep, n) (let same : count + 0 ≡ count = omega arith in rw same (skipped n)))

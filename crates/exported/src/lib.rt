@@ -13,7 +13,10 @@ ghost use Rattle.bench_text.specs.Bench.{read_answer, read_area};
 ghost use Rattle.exported.specs.Detected.{opposed, detected};
 ghost use Rattle.exported.specs.Answered.{answered};
 
-use job::{Job, JobCheck, Outcome};
+use job::{Job, Outcome};
+use rules::Refusal;
+use run::Setup;
+use unit::GivenFaults;
 
 // What a call returns, in numbers: 0, 0 and how much it did; or 1 and the row that is broken, with its position.
 #[repr(C)]
@@ -24,20 +27,23 @@ pub struct Answered {
     pub number: usize,
 }
 
-fn in_numbers(outcome: Outcome) -> Answered
-    ensures { answered result ≡ answer_of outcome }
-{
-    match outcome {
-        Outcome::Done(number) => Answered {
-            refused: 0,
-            rule: 0,
-            number,
-        },
-        Outcome::Refused { rule, at } => Answered {
-            refused: 1,
-            rule: rule as usize,
-            number: at,
-        },
+impl From<Outcome> for Answered {
+    ghost from_gives = { λ outcome r. answered r ≡ answer_of outcome };
+
+    #[tactic(auto, unfolding(crate::specs::Answered::answered, job::specs::Job::answer_of))]
+    fn from(outcome: Outcome) -> Answered {
+        match outcome {
+            Ok(number) => Answered {
+                refused: 0,
+                rule: 0,
+                number,
+            },
+            Err(Refusal { rule, at }) => Answered {
+                refused: 1,
+                rule: usize::from(rule.number()),
+                number: at,
+            },
+        }
     }
 }
 
@@ -57,18 +63,23 @@ fn detect(c: &[u8], job: Job, t: &[u8], fs: &[u8], free: &[u8]) -> u64
     circuit::list_tables(c, job.lines, &mut pins, &mut flops, &mut outs);
     faults::give_batch(fs, 0, fs.len() / 4, &mut hits, &mut masks);
     run::power_up(c, job.flops, &mut state);
-    run::opposing_ever(
-        c,
+    let setup = Setup {
+        circuit: c,
+        test: t,
         job,
-        t,
+        pins: &pins,
+        flops: &flops,
+        outs: &outs,
+    };
+    run::opposing_ever(
+        &setup,
         job.units,
         free,
-        0xffff_ffff_ffff_ffff,
-        &pins,
-        &flops,
-        &outs,
-        &hits,
-        &masks,
+        u64::MAX,
+        &GivenFaults {
+            hits: &hits,
+            masks: &masks,
+        },
         &mut feed,
         &mut words,
         &mut state,
@@ -87,8 +98,8 @@ pub extern "C" fn balithoomai_detected(
     ensures { (j : ℕ) → j < 64 → bit j result ≡ detected circuit.now test.now faults.now free.now j }
 {
     match job::check_inputs(circuit, test, faults, 0, 64) {
-        JobCheck::Broken { rule, at } => 0,
-        JobCheck::Ready(job) => {
+        Err(_) => 0,
+        Ok(job) => {
             if free.len() < job.units * job.outputs {
                 return 0;
             }
@@ -111,7 +122,7 @@ pub extern "C" fn balithoomai_grade(
     ensures answers { answered result ≡ grade_answer circuit.now test.now faults.now plan.now k (length work.old) (length res.old) }
     ensures writes { res.new ≡ grade_area circuit.now test.now faults.now plan.now k (length work.old) res.old }
 {
-    in_numbers(grade::grade(circuit, test, faults, plan, k, work, res))
+    Answered::from(grade::grade(circuit, test, faults, plan, k, work, res))
 }
 
 // Choose, as programs in other languages call it.
@@ -127,7 +138,7 @@ pub extern "C" fn balithoomai_choose(
     ensures answers { answered result ≡ choose_answer circuit.now test.now faults.now k (length work.old) (length res.old) }
     ensures writes { res.new ≡ choose_area circuit.now test.now faults.now k (length work.old) res.old }
 {
-    in_numbers(choose::choose(circuit, test, faults, k, work, res))
+    Answered::from(choose::choose(circuit, test, faults, k, work, res))
 }
 
 // `read_bench`, as programs in other languages call it.
@@ -136,5 +147,5 @@ pub extern "C" fn balithoomai_read_bench(text: &[u8], res: &mut [u8]) -> Answere
     ensures answers { answered result ≡ read_answer text.now (length res.old) }
     ensures writes { res.new ≡ read_area text.now res.old }
 {
-    in_numbers(read_bench::read_bench(text, res))
+    Answered::from(read_bench::read_bench(text, res))
 }

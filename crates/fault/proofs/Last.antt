@@ -2,11 +2,10 @@
 use mathlib.Core.Path.{◌≡◌, ◌∙◌}
 use mathlib.Core.Bool.{not}
 use mathlib.Core.List.{List}
-use mathlib.Core.Option.{none, or_else, get_or}
+use mathlib.Core.Option.{none, some, or_else}
 use Prim.Native.Nat.{ℕ, ◌<◌, ◌≤◌}
 use borrow.Author.Tests.{eq-eqb, ne_eqb, le-leb, lt-leb}
 use Rattle.lists.specs.Scan.{first}
-use Rattle.lists.proofs.Scan.{given-first, given-none}
 use Rattle.model.specs.Inputs.{F, Fault}
 use Rattle.model.specs.Starts.{free_bits, start_count, differs}
 use Rattle.model.specs.Sequences.{taken, count_ending, ends_surviving}
@@ -28,11 +27,11 @@ module _ (c t : List ℕ) (f : Fault) (p : List ℕ) (k : ℕ) (before : before_
     unfolding stage6 free_bits
     graded_7 h = last ∙ rw (lt-leb (F c) k h)
 
-    module _ (few : F c ≤ k) (s : ℕ) (lowest : s ≡ get_or (first (λ s. not (differs c t f s)) (start_count c)) (start_count c)) where
-      pub graded_6 : s < start_count c → grade c t f p k ≡ counted c t f p k 6 s
+    module _ (few : F c ≤ k) where
+      pub graded_6 : (s : ℕ) → first (λ s. not (differs c t f s)) (start_count c) ≡ some s → grade c t f p k ≡ counted c t f p k 6 s
       unfolding stage6 free_bits from_start
-      graded_6 h = last ∙ rw (le-leb (F c) k few, given-first (λ s. not (differs c t f s)) (start_count c) s lowest h)
+      graded_6 s lowest = last ∙ rw (le-leb (F c) k few, lowest)
 
-      pub graded_4 : start_count c ≤ s → grade c t f p k ≡ counted c t f p k 4 0
+      pub graded_4 : first (λ s. not (differs c t f s)) (start_count c) ≡ none → grade c t f p k ≡ counted c t f p k 4 0
       unfolding stage6 free_bits from_start
-      graded_4 h = last ∙ rw (le-leb (F c) k few, given-none (λ s. not (differs c t f s)) (start_count c) s lowest h)
+      graded_4 all = last ∙ rw (le-leb (F c) k few, all)

@@ -11,45 +11,34 @@ ghost use Rattle.model.specs.Simulation.{no_fault, power_up, free_outputs};
 ghost use Rattle.lanes.specs.Lane.{Lane, Room};
 ghost use Rattle.circuit.specs.Table.{Listed};
 ghost use Rattle.unit.specs.Unit.{Stuck};
-ghost use Rattle.run.specs.Run.{Runnable};
+ghost use Rattle.run.specs.Run.{Runs};
 ghost use Rattle.fault.specs.Fault.{Traced, ShownBoth, Beside, Concluding};
 
-use job::Job;
 use record::Verdict;
+use run::Setup;
 use sequences::Endings;
+use unit::GivenFaults;
 
 // The plain run of the fault that lane 0 has: its responses behind the fault-free ones in the work area, and its states.
 pub fn trace(
-    c: &[u8],
-    job: Job,
-    t: &[u8],
-    pins: &[u16],
-    flops: &[usize],
-    outs: &[usize],
-    hits: &[u8],
-    masks: &[u64],
+    setup: &Setup,
+    given: &GivenFaults,
     feed: &mut [u64],
     words: &mut [u64],
     state: &mut [u64],
     states: &mut [u8],
     work: &mut [u8],
 )
-    requires { (Runnable c.now t.now job pins.now flops.now outs.now hits.now masks.now feed.old words.old state.old) × (L c.now t.now * F c.now ≤ length states.old)
-        × (L c.now t.now * O c.now + L c.now t.now * O c.now ≤ length work.old) × (Rows (O c.now) (L c.now t.now) work.old (λ u. free_outputs c.now t.now u)) }
-    ensures { Traced c.now t.now hits.now masks.now states.new work.new }
+    requires { (Runs setup.now given.now.hits.now given.now.masks.now feed.old words.old state.old) × (L setup.now.circuit.now setup.now.test.now * F setup.now.circuit.now ≤ length states.old)
+        × (L setup.now.circuit.now setup.now.test.now * O setup.now.circuit.now + L setup.now.circuit.now setup.now.test.now * O setup.now.circuit.now ≤ length work.old) × (Rows (O setup.now.circuit.now) (L setup.now.circuit.now setup.now.test.now) work.old (λ u. free_outputs setup.now.circuit.now setup.now.test.now u)) }
+    ensures { Traced setup.now.circuit.now setup.now.test.now given.now.hits.now given.now.masks.now states.new work.new }
 {
-    run::power_up(c, job.flops, state);
-    let at = job.units * job.outputs;
+    run::power_up(setup.circuit, setup.job.flops, state);
+    let at = setup.job.units * setup.job.outputs;
     run::write_run(
-        c,
-        job,
-        t,
-        job.flops,
-        pins,
-        flops,
-        outs,
-        hits,
-        masks,
+        setup,
+        setup.job.flops,
+        given,
         feed,
         words,
         state,
@@ -64,32 +53,25 @@ fn show_both(
     c: &[u8],
     outs: &[usize],
     count: usize,
-    hits: &[u8],
-    masks: &[u64],
+    given: &GivenFaults,
     words: &[u64],
     free: &mut [u8],
     faulty: &mut [u8],
 ) -> bool
     requires { (ValidCircuit c.now) × (Listed (output_lines c.now) outs.now) × (count ≡ O c.now) × (Room (N c.now) words.now) × (count ≤ length free.old) × (count ≤ length faulty.old) }
-    ensures { ShownBoth c.now hits.now masks.now words.now free.old free.new faulty.old faulty.new result }
+    ensures { ShownBoth c.now given.now.hits.now given.now.masks.now words.now free.old free.new faulty.old faulty.new result }
 {
-    run::write_outputs(c, outs, count, hits, masks, words, 1, free);
-    run::write_outputs(c, outs, count, hits, masks, words, 0, faulty);
-    let opposing = run::opposing(c, outs, count, hits, masks, words, free);
+    run::write_outputs(c, outs, count, given, words, 1, free);
+    run::write_outputs(c, outs, count, given, words, 0, faulty);
+    let opposing = run::opposing(c, outs, count, given, words, free);
     tally::has_lane(opposing, 0)
 }
 
 // The plain run of the fault that lane 0 has beside the fault-free one, which lane 1 has, from power-up: the responses of both and the fault's
 // states. It ends at the first unit at which an output opposes: whether there is one.
 pub fn trace_beside(
-    c: &[u8],
-    job: Job,
-    t: &[u8],
-    pins: &[u16],
-    flops: &[usize],
-    outs: &[usize],
-    hits: &[u8],
-    masks: &[u64],
+    setup: &Setup,
+    given: &GivenFaults,
     feed: &mut [u64],
     words: &mut [u64],
     state: &mut [u64],
@@ -97,33 +79,46 @@ pub fn trace_beside(
     faulty: &mut [u8],
     states: &mut [u8],
 ) -> bool
-    requires { (Runnable c.now t.now job pins.now flops.now outs.now hits.now masks.now feed.old words.old state.old) × ((lane : ℕ) → Lane lane state.old (power_up c.now))
-        × (L c.now t.now * O c.now ≤ length free.old) × (L c.now t.now * O c.now ≤ length faulty.old) × (L c.now t.now * F c.now ≤ length states.old) }
-    ensures { (f : Fault) → Stuck 0 hits.now masks.now f → Stuck 1 hits.now masks.now no_fault
-        → Beside c.now t.now f free.new faulty.new states.new result }
+    requires { (Runs setup.now given.now.hits.now given.now.masks.now feed.old words.old state.old) × ((lane : ℕ) → Lane lane state.old (power_up setup.now.circuit.now))
+        × (L setup.now.circuit.now setup.now.test.now * O setup.now.circuit.now ≤ length free.old) × (L setup.now.circuit.now setup.now.test.now * O setup.now.circuit.now ≤ length faulty.old) × (L setup.now.circuit.now setup.now.test.now * F setup.now.circuit.now ≤ length states.old) }
+    ensures { (f : Fault) → Stuck 0 given.now.hits.now given.now.masks.now f → Stuck 1 given.now.hits.now given.now.masks.now no_fault
+        → Beside setup.now.circuit.now setup.now.test.now f free.new faulty.new states.new result }
 {
-    let mut u: usize = 0;
-    while u < job.units {
-        let place = job.outputs * u;
-        let row = job.flops * u;
+    for u in 0..setup.job.units {
+        let place = setup.job.outputs * u;
+        let row = setup.job.flops * u;
         run::values_at(
-            c, pins, job.lines, job.inputs, t, u, state, hits, masks, feed, words,
+            setup.circuit,
+            setup.pins,
+            setup.job.lines,
+            setup.job.inputs,
+            setup.test,
+            u,
+            state,
+            given,
+            feed,
+            words,
         );
         if show_both(
-            c,
-            outs,
-            job.outputs,
-            hits,
-            masks,
+            setup.circuit,
+            setup.outs,
+            setup.job.outputs,
+            given,
             words,
             &mut free[place..],
             &mut faulty[place..],
         ) {
             return true;
         }
-        run::write_state(state, job.flops, 0, &mut states[row..]);
-        unit::next_state(c, flops, job.flops, hits, masks, words, state);
-        u += 1;
+        run::write_state(state, setup.job.flops, 0, &mut states[row..]);
+        unit::next_state(
+            setup.circuit,
+            setup.flops,
+            setup.job.flops,
+            given,
+            words,
+            state,
+        );
     }
     false
 }
@@ -131,45 +126,37 @@ pub fn trace_beside(
 // The verdict of stages 5 and 6, once the sequences of m taken pairs are counted: where none survives 3; else by the starting states, if the
 // flip-flops number at most k.
 pub fn conclude(
-    c: &[u8],
-    job: Job,
-    t: &[u8],
+    setup: &Setup,
     free: &[u8],
     k: usize,
     m: usize,
     ends: Endings,
-    pins: &[u16],
-    flops: &[usize],
-    outs: &[usize],
-    hits: &[u8],
-    masks: &[u64],
+    given: &GivenFaults,
     feed: &mut [u64],
     words: &mut [u64],
     state: &mut [u64],
 ) -> Verdict
-    requires { (Runnable c.now t.now job pins.now flops.now outs.now hits.now masks.now feed.old words.old state.old) × (L c.now t.now * O c.now ≤ length free.now) × (k ≤ 12) × (m ≤ 12) }
-    ensures { (f : Fault) (p : List ℕ) → Concluding c.now t.now free.now hits.now masks.now p k m ends f
-        → verdict_of result ≡ grade c.now t.now f p k }
+    requires { (Runs setup.now given.now.hits.now given.now.masks.now feed.old words.old state.old) × (L setup.now.circuit.now setup.now.test.now * O setup.now.circuit.now ≤ length free.now) × (k ≤ 12) × (m ≤ 12) }
+    ensures { (f : Fault) (p : List ℕ) → Concluding setup.now.circuit.now setup.now.test.now free.now given.now.hits.now given.now.masks.now p k m ends f
+        → verdict_of result ≡ grade setup.now.circuit.now setup.now.test.now f p k }
 {
     let pairs = m as u8;
     if ends.surviving == 0 {
         return record::counted(3, pairs, ends.differing, ends.clashing, 0, 0);
     }
-    if k < job.flops {
+    if k < setup.job.flops {
         return record::counted(7, pairs, ends.differing, ends.clashing, ends.surviving, 0);
     }
-    let start = starts::lowest_never(
-        c, job, t, free, pins, flops, outs, hits, masks, feed, words, state,
-    );
-    if start < 1 << job.flops {
-        return record::counted(
+    let start = starts::lowest_never(setup, free, given, feed, words, state);
+    match start {
+        Some(start) => record::counted(
             6,
             pairs,
             ends.differing,
             ends.clashing,
             ends.surviving,
             start,
-        );
+        ),
+        None => record::counted(4, pairs, ends.differing, ends.clashing, ends.surviving, 0),
     }
-    record::counted(4, pairs, ends.differing, ends.clashing, ends.surviving, 0)
 }

@@ -1,17 +1,16 @@
 -- A batch of faults, lane by lane: which fault each lane has, and which lines have a row.
-use mathlib.Core.Path.{◌≡◌, ap, sym, ◌∙◌}
+use mathlib.Core.Path.{◌≡◌, sym, ◌∙◌}
 use mathlib.Core.List.{List}
 use Prim.Native.Nat.{ℕ, suc, ◌+◌, ◌*◌, ◌<◌, ◌≤◌}
 use native.Mathlib.Omega.{arith}
 use native.Mathlib.Decide.{dec_le}
 use borrow.Author.Tests.{lt-ltb, le-ltb}
-use lib.ListN.{length, get_or, set}
+use lib.ListN.{length, get_or}
 use Rattle.model.specs.Inputs.{N, fault_count, fault_at}
 use Rattle.model.specs.Accepted.{ValidCircuit, ValidFault}
 use Rattle.model.specs.Simulation.{no_fault}
 use Rattle.faults.specs.Given.{Blank, InRows, OneMore, Batch, lane_fault, Named, Given}
-use Rattle.lists.proofs.Tests.{by-eq}
-use Rattle.faults.proofs.Laws.{set-zero, blank-rows}
+use Rattle.faults.proofs.Laws.{blank-rows}
 
 -- faults of an accepted list
 pub valid_batch : (c fs : List ℕ) (from count lines : ℕ) → ValidCircuit c → ((j : ℕ) → j < fault_count fs → ValidFault c (fault_at fs j)) → from + count ≤ fault_count fs
@@ -52,20 +51,10 @@ module _ (fs : List ℕ) (from : ℕ) where
       → OneMore t line pin stuck (lane_fault fs from t) (lane_fault fs from (t + 1))
   batch_more {t} el ep ev = record { idle = lane-free t t (omega arith); given = rw (lane-last t) (sym el, sym ep, sym ev); others = lane-other t }
 
--- the lines that the faults name: one fault more at the end, one less at the beginning, none
-module _ {fs : List ℕ} {a b : ℕ} {hits : List ℕ} (old : Named fs a b hits) where
-  pub named_more : {b' line : ℕ} {hits' : List ℕ} → b' ≡ b + 1 → a ≤ b → line ≡ (fault_at fs b).line
-      → ((n : ℕ) → (n ≡ line → ⊥) → get_or hits' n 0 ≡ get_or hits n 0) → Named fs a b' hits'
-  named_more e l el kept = record { none = λ n h. kept n (λ g. h b l (omega arith) (sym el ∙ sym g)) ∙ old.none n (λ j p q. h j p (omega arith)) }
-
-  pub named-less : {a' line : ℕ} {hits' : List ℕ} → a' ≡ a + 1 → line ≡ (fault_at fs a).line → line < length hits → hits' ≡ set hits line 0 → Named fs a' b hits'
-  named-less {line = line} e el l eh = record {
-    none = λ n h. rw eh (set-zero hits line n l
-        (λ g. old.none n (λ j p q k. by-eq j a (λ w. g (sym k ∙ ap (λ (x : ℕ). (fault_at fs x).line) w ∙ sym el)) (λ w. h j (omega arith) q k))));
-  }
-
-  pub named_none : b ≤ a → (n : ℕ) → get_or hits n 0 ≡ 0
-  named_none h n = old.none n (λ j p q e. omega arith)
+-- the lines that the faults name, with one fault more at the end
+pub named_more : {fs : List ℕ} {a b b' line : ℕ} {hits hits' : List ℕ} → Named fs a b hits → b' ≡ b + 1 → a ≤ b → line ≡ (fault_at fs b).line
+    → ((n : ℕ) → (n ≡ line → ⊥) → get_or hits' n 0 ≡ get_or hits n 0) → Named fs a b' hits'
+named_more {b = b} old e l el kept = record { none = λ n h. kept n (λ g. h b l (omega arith) (sym el ∙ sym g)) ∙ old.none n (λ j p q. h j p (omega arith)) }
 
 pub blank-named : {fs : List ℕ} {a b : ℕ} {hits masks : List ℕ} → Blank hits masks → Named fs a b hits
 blank-named b = record { none = λ n h. b.rows n }

@@ -30,13 +30,10 @@ stored-X ws i k l h = by-eq k i (λ e. rw e (stored_same ws i all_x l)) (λ e. s
 holds-X : (t : ℕ) (ws : List ℕ) (m : ℕ) → lanes_at ws m ≡ all_x → At t ws m X
 holds-X t ws m e = holds_as t _ _ _ e (shows-x t 2 (omega arith))
 
--- the places that may hold masks: one less at the beginning, none, more at the end
+-- the places that may hold masks: one less at the beginning, more at the end
 module _ {a b : ℕ} {ws : List ℕ} (old : Within a b ws) where
   pub within-less : {a' : ℕ} {ws' : List ℕ} → a' ≡ a + 1 → ws' ≡ stored ws a all_x → Room (a + 1) ws → Within a' b ws'
   within-less e w l = record { outside = λ m h. rw w (stored-X ws a m l (λ ne. old.outside m (λ p q. h (omega arith) q))) }
-
-  pub within_none : b ≤ a → (m : ℕ) → lanes_at ws m ≡ all_x
-  within_none h m = old.outside m (λ p q. omega arith)
 
   within_more : {b' : ℕ} → b ≤ b' → Within a b' ws
   within_more l = record { outside = λ m h. old.outside m (λ p q. h p (omega arith)) }

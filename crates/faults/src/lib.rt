@@ -40,7 +40,7 @@ pub fn give(hits: &mut [u8], masks: &mut [u64], t: usize, line: usize, pin: usiz
     if hits[line] == 0 {
         hits[line] = (t + 1) as u8;
     }
-    let at = 5 * basics::wide(hits[line]) + pin;
+    let at = 5 * usize::from(hits[line]) + pin;
     let x = lanes::read(masks, at);
     lanes::store(masks, at, x.with(t, stuck));
 }
@@ -50,11 +50,9 @@ pub fn give_batch(fs: &[u8], from: usize, count: usize, hits: &mut [u8], masks: 
     requires { (Blank hits.old masks.old) × (Batch fs.now from count (length hits.old)) × (length hits.old ≤ 65536) × (MaskRoom masks.old) }
     ensures { Given fs.now from count hits.new masks.new }
 {
-    let mut t: usize = 0;
-    while t < count {
+    for t in 0..count {
         let f = circuit::fault_of(fs, from + t);
         give(hits, masks, t, f.line, f.pin, f.value);
-        t += 1;
     }
 }
 
@@ -63,12 +61,9 @@ fn close_lines(fs: &[u8], from: usize, count: usize, hits: &mut [u8])
     requires { (Batch fs.now from count (length hits.old)) × (Named fs.now from (from + count) hits.old) }
     ensures { (n : ℕ) → get_or hits.new n 0 ≡ 0 }
 {
-    let mut t: usize = 0;
-    while t < count {
-        let f = circuit::fault_of(fs, from + t);
-        let n = f.line;
+    for j in from..from + count {
+        let n = circuit::fault_of(fs, j).line;
         hits[n] = 0;
-        t += 1;
     }
 }
 
@@ -77,10 +72,8 @@ fn clear_rows(masks: &mut [u64], count: usize)
     requires { (RowsTo count masks.old) × (count ≤ 64) × (MaskRoom masks.old) }
     ensures { (m : ℕ) → lanes_at masks.new m ≡ all_x }
 {
-    let mut m: usize = 5;
-    while m < 5 * (count + 1) {
+    for m in 5..5 * (count + 1) {
         lanes::store(masks, m, Lanes::X);
-        m += 1;
     }
 }
 

@@ -11,6 +11,7 @@ ghost use Rattle.job.specs.Job.{answer_of};
 use job::Outcome;
 
 // The number's next step: shifted right by one, and combined with the mask if the bit shifted out was 1.
+#[tactic(auto, unfolding(model::specs::Generate::step))]
 pub fn step(x: u16) -> u16
     ensures { result ≡ step x }
 {
@@ -26,11 +27,9 @@ fn fill(seed: u16, size: usize, res: &mut [u8])
     ensures { res.new ≡ overwritten (tabulate (λ b. generate_byte seed b) 0 size) res.old }
 {
     let mut x = seed;
-    let mut b: usize = 0;
-    while b < size {
+    for b in 0..size {
         x = step(x);
         res[b] = (x % 2) as u8;
-        b += 1;
     }
 }
 
@@ -40,11 +39,7 @@ pub fn generate(circuit: &[u8], seed: u16, units: usize, res: &mut [u8]) -> Outc
     ensures writes { res.new ≡ generate_area circuit.now seed units res.old }
     ensures promise { GeneratesTest circuit.now units (answer_of result) res.new }
 {
-    match job::check_generate(circuit, seed, units, res.len()) {
-        Outcome::Refused { rule, at } => Outcome::Refused { rule, at },
-        Outcome::Done(size) => {
-            fill(seed, size, res);
-            Outcome::Done(size)
-        }
-    }
+    let size = job::check_generate(circuit, seed, units, res.len())?;
+    fill(seed, size, res);
+    Ok(size)
 }

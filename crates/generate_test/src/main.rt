@@ -4,27 +4,27 @@
 // three seeds after how many steps the number is back at its seed for the first time.
 #![tactic(auto)]
 
-ghost use Rattle.std.specs.Prelude.{◌+◌, ◌<◌, ◌≤◌, length};
+ghost use Rattle.std.specs.Prelude.{◌<◌, ◌≤◌, length, IfSome};
 ghost use Rattle.generate_test.specs.Period.{Period};
 
-use job::Outcome;
 use printing::BLANK;
 
 // A byte more than the longest test.
 const AREA: usize = 262145;
 
+// Takes the array whole, so that nothing is to be shown of its length after a part was lent.
 fn print_area(rt: &impl Print, res: &[u8; AREA], size: usize)
     requires { size ≤ 262145 }
 {
     if size == 0 {
         return;
     }
+    let area = &res[..size];
     printing::text(rt, b" ");
-    let area = &res[..];
     if size <= 64 {
-        printing::hex(rt, &area[0..size], 64);
+        printing::hex(rt, area, 64);
     } else {
-        printing::number(rt, printing::checksum(&area[0..size]));
+        printing::number(rt, printing::checksum(area));
     }
 }
 
@@ -34,62 +34,43 @@ fn run(rt: &impl Print, circuit: &[u8], seed: u16, units: usize, size: usize) {
         printing::text(rt, b"the result area is too long\n");
         return;
     }
-    match generate::generate(circuit, seed, units, &mut result[0..size]) {
-        Outcome::Done(n) => printing::done(rt, n),
-        Outcome::Refused { rule, at } => printing::refused(rt, rule, at),
-    }
+    let outcome = generate::generate(circuit, seed, units, &mut result[..size]);
+    printing::outcome(rt, outcome);
     print_area(rt, &result, size);
     printing::text(rt, b"\n");
 }
 
-// The job that begins here; where the next one begins.
-fn run_job(rt: &impl Print, jobs: &[u8], at: usize) -> usize
-    requires { at + 12 ≤ length jobs.now }
-    ensures { (at < result) × (result ≤ length jobs.now) }
+// The job that begins here; what is behind it, or none where it is cut off.
+fn run_job<'a>(rt: &impl Print, jobs: &'a [u8]) -> Option<&'a [u8]>
+    ensures { IfSome result (λ rest. length rest.now < length jobs.now) }
 {
-    let from = at + 12;
-    let end = from + basics::word_at(jobs, at + 10);
-    let seed = basics::word_at(jobs, at) as u16;
-    let units = printing::long_at(jobs, at + 2);
-    let size = printing::long_at(jobs, at + 6);
-    if jobs.len() < end {
-        printing::cut_off(rt);
-        return jobs.len();
-    }
-    run(rt, &jobs[from..end], seed, units, size);
-    end
+    let (head, rest) = jobs.split_at_checked(12)?;
+    let (circuit, rest) = rest.split_at_checked(basics::word_at(head, 10))?;
+    let seed = u16::from_le_bytes([head[0], head[1]]);
+    let units = printing::long_at(head, 2);
+    let size = printing::long_at(head, 6);
+    run(rt, circuit, seed, units, size);
+    Some(rest)
 }
 
-fn run_jobs(rt: &impl Print, jobs: &[u8]) {
-    let mut at: usize = 0;
-    while at + 12 <= jobs.len() {
-        at = run_job(rt, jobs, at);
-    }
-    if at < jobs.len() {
-        printing::cut_off(rt);
-    }
-}
-
-// After how many steps the number is back at its seed for the first time; 65,536 where it is not in so many.
+// After how many steps the number is back at its seed for the first time; 65,536, which is higher than any, where it is not in so many.
 fn period(seed: u16) -> usize
     ensures { Period seed result }
 {
     let mut x = generate::step(seed);
-    let mut n: usize = 1;
-    while n < 65536 {
+    for n in 1..65536 {
         if x == seed {
             return n;
         }
         x = generate::step(x);
-        n += 1;
     }
-    n
+    65536
 }
 
 fn main(rt: HostRuntime) {
     let mut jobs = [0u8; 65536];
     let size = printing::read(&rt, b"jobs.dat", &mut jobs);
-    run_jobs(&rt, &jobs[..size]);
+    printing::run_jobs(&rt, &jobs[..size], |jobs| run_job(&rt, jobs));
     printing::text(&rt, b"periods ");
     printing::row(&rt, &[period(1), period(0xace1), period(65535)]);
 }

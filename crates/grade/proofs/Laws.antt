@@ -39,9 +39,9 @@ unfolding fault_count
 count-is fs n h = h
 
 -- a table has room for the rows of an accepted job
-pub row_room : {c t fs plan table : List ℕ} {k work result : ℕ} → GradeReady c t fs plan k work result → TableRoom work table → RowRoom c t table
+pub row_room : {c t fs plan : List ℕ} (table : List ℕ) {k work result : ℕ} → GradeReady c t fs plan k work result → TableRoom work (length table) → RowRoom c t table
 unfolding work_bytes
-row_room {c} {t} ready long =
+row_room {c} {t} table ready long =
     let inputs = ready.inputs in
     let rows : L c t * (16 * F c) ≤ L c t * (4 * O c + 16 * F c + 8) = mul-le-mul_left (L c t) (omega arith) in
     let each : L c t * (16 * F c) ≡ 16 * (L c t * F c) = sym (mul_assoc (L c t) 16 (F c)) ∙ ap (λ n. n * F c) (mul_comm (L c t) 16) ∙ mul_assoc 16 (L c t) (F c) in

@@ -4,41 +4,39 @@
 // records, and where the call refused all of both areas. The records follow, a line each.
 #![tactic(auto)]
 
-ghost use Rattle.std.specs.Prelude.{◌+◌, ◌<◌, ◌≤◌, length};
+ghost use Rattle.std.specs.Prelude.{◌<◌, ◌≤◌, length, IfSome};
 
-use job::Outcome;
 use printing::BLANK;
+use rules::Refusal;
 
 // How long the areas of a job may be.
 const WORK: usize = 131072;
 
 const RESULT: usize = 8192;
 
-// The nine fields of the record that begins here.
-fn print_record(rt: &impl Print, records: &[u8], at: usize)
-    requires { at + 16 ≤ length records.now }
+// The nine fields of a record.
+fn print_record(rt: &impl Print, record: &[u8])
+    requires { 16 ≤ length record.now }
 {
     printing::row(
         rt,
         &[
-            basics::wide(records[at]),
-            basics::wide(records[at + 1]),
-            basics::word_at(records, at + 2),
-            basics::word_at(records, at + 4),
-            basics::word_at(records, at + 6),
-            basics::word_at(records, at + 8),
-            basics::word_at(records, at + 10),
-            basics::word_at(records, at + 12),
-            basics::word_at(records, at + 14),
+            usize::from(record[0]),
+            usize::from(record[1]),
+            basics::word_at(record, 2),
+            basics::word_at(record, 4),
+            basics::word_at(record, 6),
+            basics::word_at(record, 8),
+            basics::word_at(record, 10),
+            basics::word_at(record, 12),
+            basics::word_at(record, 14),
         ],
     );
 }
 
 fn print_records(rt: &impl Print, records: &[u8]) {
-    let mut at: usize = 0;
-    while at + 16 <= records.len() {
-        print_record(rt, records, at);
-        at += 16;
+    for record in records.chunks_exact(16) {
+        print_record(rt, record);
     }
 }
 
@@ -51,15 +49,14 @@ fn print_done(rt: &impl Print, n: usize, size: usize, res: &[u8; RESULT])
         printing::text(rt, b" TOO MANY\n");
         return;
     }
-    let area = &res[..];
-    let end = 16 * n;
-    printing::kept_or_changed(rt, printing::kept(&area[end..], BLANK));
-    print_records(rt, &area[0..end]);
+    let (records, rest) = res.split_at(16 * n);
+    printing::kept_or_changed(rt, printing::kept(rest, BLANK));
+    print_records(rt, records);
 }
 
 // Takes the arrays whole, so that nothing is to be shown of their lengths after a part was lent.
-fn print_refused(rt: &impl Print, rule: u8, at: usize, work: &[u8; WORK], res: &[u8; RESULT]) {
-    printing::refused_job(rt, rule, at, work, res);
+fn print_refused(rt: &impl Print, refusal: Refusal, work: &[u8; WORK], res: &[u8; RESULT]) {
+    printing::refused_job(rt, refusal, work, res);
 }
 
 fn run(
@@ -82,62 +79,39 @@ fn run(
         printing::text(rt, b"the result area is too long\n");
         return;
     }
-    match grade::grade(
+    let outcome = grade::grade(
         circuit,
         test,
         faults,
         plan,
         k,
-        &mut work[0..room],
-        &mut result[0..size],
-    ) {
-        Outcome::Done(n) => print_done(rt, n, size, &result),
-        Outcome::Refused { rule, at } => print_refused(rt, rule, at, &work, &result),
-    }
-}
-
-// The job that begins here; where the next one begins.
-fn run_job(rt: &impl Print, jobs: &[u8], at: usize) -> usize
-    requires { at + 28 ≤ length jobs.now }
-    ensures { (at < result) × (result ≤ length jobs.now) }
-{
-    let from = at + 28;
-    let test = from + printing::long_at(jobs, at);
-    let faults = test + printing::long_at(jobs, at + 4);
-    let plan = faults + printing::long_at(jobs, at + 8);
-    let end = plan + printing::long_at(jobs, at + 12);
-    let k = printing::long_at(jobs, at + 16);
-    let room = printing::long_at(jobs, at + 20);
-    let size = printing::long_at(jobs, at + 24);
-    if jobs.len() < end {
-        printing::cut_off(rt);
-        return jobs.len();
-    }
-    run(
-        rt,
-        &jobs[from..test],
-        &jobs[test..faults],
-        &jobs[faults..plan],
-        &jobs[plan..end],
-        k,
-        room,
-        size,
+        &mut work[..room],
+        &mut result[..size],
     );
-    end
+    match outcome {
+        Ok(n) => print_done(rt, n, size, &result),
+        Err(refusal) => print_refused(rt, refusal, &work, &result),
+    }
 }
 
-fn run_jobs(rt: &impl Print, jobs: &[u8]) {
-    let mut at: usize = 0;
-    while at + 28 <= jobs.len() {
-        at = run_job(rt, jobs, at);
-    }
-    if at < jobs.len() {
-        printing::cut_off(rt);
-    }
+// The job that begins here; what is behind it, or none where it is cut off.
+fn run_job<'a>(rt: &impl Print, jobs: &'a [u8]) -> Option<&'a [u8]>
+    ensures { IfSome result (λ rest. length rest.now < length jobs.now) }
+{
+    let (head, rest) = jobs.split_at_checked(28)?;
+    let (circuit, rest) = rest.split_at_checked(printing::long_at(head, 0))?;
+    let (test, rest) = rest.split_at_checked(printing::long_at(head, 4))?;
+    let (faults, rest) = rest.split_at_checked(printing::long_at(head, 8))?;
+    let (plan, rest) = rest.split_at_checked(printing::long_at(head, 12))?;
+    let k = printing::long_at(head, 16);
+    let room = printing::long_at(head, 20);
+    let size = printing::long_at(head, 24);
+    run(rt, circuit, test, faults, plan, k, room, size);
+    Some(rest)
 }
 
 fn main(rt: HostRuntime) {
     let mut jobs: [u8; 524288] = printing::zeros();
     let size = printing::read(&rt, b"jobs.dat", &mut jobs);
-    run_jobs(&rt, &jobs[..size]);
+    printing::run_jobs(&rt, &jobs[..size], |jobs| run_job(&rt, jobs));
 }

@@ -2,34 +2,28 @@
 // list that cannot be written, has a line on standard error.
 #![tactic(auto)]
 
-ghost use Rattle.std.specs.Prelude.{◌≤◌, length};
+ghost use Rattle.std.specs.Prelude.{◌≤◌, length, IfSome};
 ghost use Rattle.listing.specs.Print.{PrintRoom};
+ghost use Rattle.printing.specs.Prefix.{IsPrefixLen};
 
 use listing::Longer;
+use printing::Input;
 
-// The list that stands at the beginning of the print.
-fn write(rt: &HostRuntime, out: &[u8], size: usize)
-    requires { size ≤ length out.now }
-{
-    printing::deliver(rt, &out[..size], b"grader: cannot write the list\n");
-}
-
-// Makes the list of the four files in a print that is lent, and writes it. Three functions lend one, each for so many faults at most: all pages
-// of an array are touched when its function is called, and in a job of a few lines these are most of the time.
-fn list(
+// Makes the list of the four files in a print of so many bytes, and writes it.
+fn list<const ROOM: usize>(
     rt: &HostRuntime,
     circuit: &[u8],
     test: &[u8],
     faults: &[u8],
     plan: &[u8],
     longer: Longer,
-    out: &mut [u8],
 )
-    requires { PrintRoom faults.now (length out.old) }
+    requires { PrintRoom faults.now ROOM × (ROOM ≤ 294960) }
 {
     let mut work = [0u8; 65536];
     let mut result = [0u8; 65536];
     let mut groups = [0u8; 65536];
+    let mut out = [0u8; ROOM];
     let size = listing::listing(
         circuit,
         test,
@@ -39,43 +33,14 @@ fn list(
         &mut work,
         &mut result,
         &mut groups,
-        out,
+        &mut out,
     );
-    write(rt, out, size);
+    printing::deliver(rt, &out[..size], "grader: cannot write the list");
 }
 
-// A print for 56 faults.
-fn list_short(
-    rt: &HostRuntime,
-    circuit: &[u8],
-    test: &[u8],
-    faults: &[u8],
-    plan: &[u8],
-    longer: Longer,
-)
-    requires { length faults.now ≤ 224 }
-{
-    let mut out = [0u8; 4096];
-    list(rt, circuit, test, faults, plan, longer, &mut out);
-}
-
-// A print for 909 faults.
-fn list_medium(
-    rt: &HostRuntime,
-    circuit: &[u8],
-    test: &[u8],
-    faults: &[u8],
-    plan: &[u8],
-    longer: Longer,
-)
-    requires { length faults.now ≤ 3636 }
-{
-    let mut out = [0u8; 65536];
-    list(rt, circuit, test, faults, plan, longer, &mut out);
-}
-
-// A print for as many faults as have records.
-fn list_long(
+// The same, with room for 56 faults, for 909, or for as many as have records: all pages of an array are touched when its function is called,
+// and in a job of a few lines these are most of the time.
+fn list_in_room(
     rt: &HostRuntime,
     circuit: &[u8],
     test: &[u8],
@@ -83,50 +48,52 @@ fn list_long(
     plan: &[u8],
     longer: Longer,
 ) {
-    let mut out = [0u8; 294960];
-    list(rt, circuit, test, faults, plan, longer, &mut out);
+    match faults.len() {
+        0..=224 => list::<4096>(rt, circuit, test, faults, plan, longer),
+        225..=3636 => list::<65536>(rt, circuit, test, faults, plan, longer),
+        _ => list::<294960>(rt, circuit, test, faults, plan, longer),
+    }
 }
 
-fn main(rt: HostRuntime) {
+// Puts a file's bytes at the start of the area; how many, and whether there are more behind them, or none where the file cannot be read.
+fn read(rt: &HostRuntime, name: &[u8], area: &mut [u8]) -> Option<(usize, bool)>
+    ensures { IfSome result (λ read. IsPrefixLen read.0 area.new) }
+{
+    match printing::read_file(rt, name, area) {
+        Input::Missing => Some((0, false)),
+        Input::Whole(size) => Some((size, false)),
+        Input::Longer(size) => Some((size, true)),
+        Input::Broken { .. } => None,
+    }
+}
+
+// The list of the files, or none where one of them cannot be read.
+fn run(rt: &HostRuntime) -> Option<()> {
     let mut circuit = [0u8; 65536];
     let mut test = [0u8; 65536];
     let mut faults = [0u8; 65536];
     let mut plan = [0u8; 65536];
-    let c = printing::read_file(&rt, b"circuit.dat", &mut circuit);
-    if c.failed {
-        return;
-    }
-    let t = printing::read_file(&rt, b"test.dat", &mut test);
-    if t.failed {
-        return;
-    }
-    let f = printing::read_file(&rt, b"faults.dat", &mut faults);
-    if f.failed {
-        return;
-    }
-    let p = printing::read_file(&rt, b"plan.dat", &mut plan);
-    if p.failed {
-        return;
-    }
-    let lines = c.size;
-    let units = t.size;
-    let list = f.size;
-    let pairs = p.size;
-    let circuit = &circuit[..lines];
-    let test = &test[..units];
-    let faults = &faults[..list];
-    let plan = &plan[..pairs];
+    let lines = read(rt, b"circuit.dat", &mut circuit)?;
+    let units = read(rt, b"test.dat", &mut test)?;
+    let list = read(rt, b"faults.dat", &mut faults)?;
+    let pairs = read(rt, b"plan.dat", &mut plan)?;
     let longer = Longer {
-        circuit: c.more,
-        test: t.more,
-        faults: f.more,
-        plan: p.more,
+        circuit: lines.1,
+        test: units.1,
+        faults: list.1,
+        plan: pairs.1,
     };
-    if faults.len() <= 224 {
-        list_short(&rt, circuit, test, faults, plan, longer);
-    } else if faults.len() <= 3636 {
-        list_medium(&rt, circuit, test, faults, plan, longer);
-    } else {
-        list_long(&rt, circuit, test, faults, plan, longer);
-    }
+    list_in_room(
+        rt,
+        &circuit[..lines.0],
+        &test[..units.0],
+        &faults[..list.0],
+        &plan[..pairs.0],
+        longer,
+    );
+    Some(())
+}
+
+fn main(rt: HostRuntime) {
+    let _ = run(&rt);
 }

@@ -10,7 +10,6 @@ ghost use Rattle.job.specs.Job.{answer_of};
 ghost use Rattle.group.specs.Groups.{KeyOf, Sought};
 
 use job::Outcome;
-use rules::Check;
 
 // The key of record j: verdict, time and line in one number.
 fn key_of(verdicts: &[u8], j: usize) -> usize
@@ -18,23 +17,23 @@ fn key_of(verdicts: &[u8], j: usize) -> usize
     ensures { KeyOf verdicts.now j result }
 {
     let at = 16 * j;
-    let verdict = basics::wide(verdicts[at]);
+    let verdict = usize::from(verdicts[at]);
     let time = basics::word_at(verdicts, at + 2);
     let line = basics::word_at(verdicts, at + 4);
     verdict + 256 * (time + 65536 * line)
 }
 
-// The first place whose key is the one at place `count`. The search ends there at the latest, so each place costs one comparison.
+// The first place whose key is the one at place `count`, and that place itself where no place before it has the key: what is
+// written in both cases. Keys stand in an array of their own, since the search reads nothing else.
 fn find(keys: &[usize], count: usize) -> usize
     requires { count < length keys.now }
     ensures { Sought keys.now count result }
 {
     let key = keys[count];
-    let mut x: usize = 0;
-    while keys[x] != key {
-        x += 1;
-    }
-    x
+    keys[..count]
+        .iter()
+        .position(|k| *k == key)
+        .unwrap_or(count)
 }
 
 // The groups of accepted records, with room lent for as many groups as there are records. A record's key and position stand behind those of
@@ -44,17 +43,26 @@ pub fn write_groups(verdicts: &[u8], keys: &mut [usize], firsts: &mut [usize], r
         × (length verdicts.now ≤ 16 * length keys.old) × (length verdicts.now ≤ 16 * length firsts.old) }
     ensures { res.new ≡ overwritten (group_bytes verdicts.now) res.old }
 {
+    // Keys stand alone, since the search reads nothing else.
     let size = verdicts.len() / 16;
     let mut count: usize = 0;
-    let mut j: usize = 0;
-    while j < size {
+    for j in 0..size {
         keys[count] = key_of(verdicts, j);
         firsts[count] = j;
         let x = find(keys, count);
         record::put16(res, 2 * j, firsts[x]);
-        count += basics::one_if(x == count);
-        j += 1;
+        count += usize::from(x == count);
     }
+}
+
+// The same, in a room for so many groups.
+fn group_in<const ROOM: usize>(verdicts: &[u8], res: &mut [u8])
+    requires { (GroupReady verdicts.now (length res.old)) × (length verdicts.now ≤ 16 * ROOM) × (ROOM ≤ 32768) }
+    ensures { res.new ≡ overwritten (group_bytes verdicts.now) res.old }
+{
+    let mut keys = [0usize; ROOM];
+    let mut firsts = [0usize; ROOM];
+    write_groups(verdicts, &mut keys, &mut firsts, res);
 }
 
 // The same. Few records do with a room that is cleared sooner.
@@ -63,13 +71,9 @@ fn group_accepted(verdicts: &[u8], res: &mut [u8])
     ensures { res.new ≡ overwritten (group_bytes verdicts.now) res.old }
 {
     if verdicts.len() <= 4096 {
-        let mut keys = [0usize; 256];
-        let mut firsts = [0usize; 256];
-        write_groups(verdicts, &mut keys, &mut firsts, res);
+        group_in::<256>(verdicts, res);
     } else {
-        let mut keys = [0usize; 32768];
-        let mut firsts = [0usize; 32768];
-        write_groups(verdicts, &mut keys, &mut firsts, res);
+        group_in::<32768>(verdicts, res);
     }
 }
 
@@ -78,11 +82,7 @@ pub fn group(verdicts: &[u8], res: &mut [u8]) -> Outcome
     ensures answers { answer_of result ≡ group_answer verdicts.now (length res.old) }
     ensures writes { res.new ≡ group_area verdicts.now res.old }
 {
-    match job::check_group(verdicts, res.len()) {
-        Check::Broken { rule, at } => Outcome::Refused { rule, at },
-        Check::Passed => {
-            group_accepted(verdicts, res);
-            Outcome::Done(verdicts.len() / 16)
-        }
-    }
+    job::check_group(verdicts, res.len())?;
+    group_accepted(verdicts, res);
+    Ok(verdicts.len() / 16)
 }

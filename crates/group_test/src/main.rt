@@ -4,7 +4,6 @@
 
 ghost use Rattle.std.specs.Prelude.{◌≤◌, ◌<◌};
 
-use job::Outcome;
 use printing::BLANK;
 
 // The bytes of 32,768 records, the most that there may be, and of one more.
@@ -14,11 +13,8 @@ type Records = [u8; 524304];
 type Entries = [u8; 65538];
 
 fn print_entries(rt: &impl Print, entries: &[u8]) {
-    let mut at: usize = 0;
-    while at + 2 <= entries.len() {
-        printing::text(rt, b" ");
-        printing::number(rt, basics::word_at(entries, at));
-        at += 2;
+    for entry in entries.chunks_exact(2) {
+        let _ = print!(rt; " {}", basics::word_at(entry, 0));
     }
 }
 
@@ -38,15 +34,9 @@ fn print_done(rt: &impl Print, n: usize, res: &Entries) {
         printing::text(rt, b" TOO MANY\n");
         return;
     }
-    let area = &res[..];
-    let end = 2 * n;
-    print_some(rt, &area[0..end]);
-    printing::kept_or_changed(rt, printing::kept(&area[end..], BLANK));
-}
-
-fn print_refused(rt: &impl Print, rule: u8, at: usize, res: &Entries) {
-    printing::refused(rt, rule, at);
-    printing::kept_or_changed(rt, printing::kept(res, BLANK));
+    let (entries, rest) = res.split_at(2 * n);
+    print_some(rt, entries);
+    printing::kept_or_changed(rt, printing::kept(rest, BLANK));
 }
 
 // The call with a result area of this size.
@@ -56,9 +46,9 @@ fn run(rt: &impl Print, title: &[u8], records: &[u8], size: usize)
     let mut result = [BLANK; 65538];
     printing::text(rt, title);
     printing::text(rt, b": ");
-    match group::group(records, &mut result[0..size]) {
-        Outcome::Done(n) => print_done(rt, n, &result),
-        Outcome::Refused { rule, at } => print_refused(rt, rule, at, &result),
+    match group::group(records, &mut result[..size]) {
+        Ok(n) => print_done(rt, n, &result),
+        Err(refusal) => printing::refused_job(rt, refusal, b"", &result),
     }
 }
 
@@ -87,8 +77,7 @@ fn fill(area: &mut Records, keys: usize)
 fn run_part(rt: &impl Print, title: &[u8], area: &Records, bytes: usize, size: usize)
     requires { (bytes ≤ 524304) × (size ≤ 65538) }
 {
-    let records = &area[..];
-    run(rt, title, &records[0..bytes], size);
+    run(rt, title, &area[..bytes], size);
 }
 
 // Few bytes and many, of records that have so many keys.
@@ -97,8 +86,7 @@ fn run_keys(rt: &impl Print, keys: usize)
 {
     let mut area: Records = printing::zeros();
     fill(&mut area, keys);
-    printing::number(rt, keys);
-    printing::text(rt, b" keys\n");
+    let _ = println!(rt; "{keys} keys");
     run_part(rt, b"one record", &area, 16, 2);
     run_part(rt, b"40 records", &area, 640, 65538);
     run_part(rt, b"32767 records", &area, 524272, 65538);

@@ -3,3 +3,4 @@ pub mod Implied
 pub mod Pins
 pub mod Gate
 pub mod Steps
+pub mod Picked

@@ -4,16 +4,17 @@
 
 ghost use Rattle.std.specs.Prelude.{◌≡◌, List, false, cond, ℕ, ◌+◌, ◌*◌, ◌/◌, ◌<◌, ◌≤◌, length, get_or};
 ghost use Rattle.model.specs.Inputs.{pin_count, pin_line, Fault};
-ghost use Rattle.model.specs.Values.{has_conflict};
+ghost use Rattle.model.specs.Values.{X, even_gate, has_conflict};
 ghost use Rattle.model.specs.Simulation.{is_stuck};
-ghost use Rattle.model.specs.Implication.{give_line};
-ghost use Rattle.lanes.specs.Lane.{bit, Holds, Room, Follows};
+ghost use Rattle.model.specs.Implication.{others, give_line};
+ghost use Rattle.lanes.specs.Lane.{bit, Holds, all_x, Room, Follows};
 ghost use Rattle.circuit.specs.Table.{PinTable};
 ghost use Rattle.unit.specs.Unit.{StuckAt, MaskRoom};
-ghost use Rattle.imply.specs.Implied.{and_implies_of, implies_of};
+ghost use Rattle.imply.specs.Implied.{and_implies_of, implies_of, picked};
 ghost use Rattle.imply.specs.Steps.{GateAt, PinsGiven, SteppedDown, SteppedUp, Passable, PassedDown, PassedUp, Implied};
 
 use lanes::Lanes;
+use unit::GivenFaults;
 
 // What AND at v implies for a pin, where the other pins give `rest`.
 fn and_implies(v: Lanes, pin: Lanes, rest: Lanes) -> Lanes
@@ -22,12 +23,12 @@ fn and_implies(v: Lanes, pin: Lanes, rest: Lanes) -> Lanes
     let zeros = v.zeros & rest.ones;
     let known = pin.zeros | pin.ones;
     Lanes {
-        zeros: (zeros | known) ^ known,
+        zeros: zeros & !known,
         ones: v.ones,
     }
 }
 
-// What a gate of kind k, at v before it inverts, implies for a pin, where the other pins give `rest`.
+// What a gate of kind k, at v before it inverts, implies for a pin, where the other pins give `rest`. A kind is a number: see `combine` of lanes.
 fn implies(k: u8, v: Lanes, pin: Lanes, rest: Lanes) -> Lanes
     requires { (2 ≤ k) × (k ≤ 9) }
     ensures { (t a p o : ℕ) → Holds t v a → Holds t pin p → Holds t rest o → Holds t result (implies_of (k / 2) a p o) }
@@ -53,94 +54,58 @@ fn give_pin(c: &[u8], masks: &[u64], words: &mut [u64], n: usize, p: usize, row:
     lanes::store(words, m, y);
 }
 
-// A gate with one pin, at v before it inverts, implies it.
-fn down_one(c: &[u8], masks: &[u64], words: &mut [u64], n: usize, k: u8, row: usize, v: Lanes)
-    requires { (GateAt c.now masks.now words.old n k row) × (pin_count c.now n ≡ 1) × (k ≤ 3) }
-    ensures { PinsGiven c.now masks.now words.old words.new n k row v }
+// What the pins below n but pin i give together with `rest`, which is what those behind them give.
+fn with_rest(k: u8, sees: &[Lanes], n: usize, i: usize, rest: Lanes) -> Lanes
+    requires { (2 ≤ k) × (k ≤ 9) × (n ≤ length sees.now) }
+    ensures { (t : ℕ) (vs tail : List ℕ) → ((j : ℕ) → j < n → Holds t (get_or sees.now j all_x) (get_or vs j X)) → Holds t rest (even_gate (k / 2) tail)
+        → Holds t result (even_gate (k / 2) (picked vs i n 0 tail)) }
 {
-    give_pin(c, masks, words, n, 1, row, v);
+    let mut all = rest;
+    for j in (0..n).rev() {
+        if j != i {
+            all = sees[j].combine(k, all);
+        }
+    }
+    all
 }
 
-// A gate with two pins.
-fn down_two(c: &[u8], masks: &[u64], words: &mut [u64], n: usize, k: u8, row: usize, v: Lanes)
-    requires { (GateAt c.now masks.now words.old n k row) × (pin_count c.now n ≡ 2) }
-    ensures { PinsGiven c.now masks.now words.old words.new n k row v }
+// What all pins of a gate but pin i give together, before it inverts: nothing where there is no other. Each of the two calls goes over a
+// number of pins that P alone gives, so that its loop is written out when it is compiled.
+fn others<const P: usize>(k: u8, sees: &[Lanes; P], i: usize) -> Lanes
+    requires { (2 ≤ k) × (k ≤ 9) × (i < P) × (P ≡ 1 → k ≤ 3) }
+    ensures { (t : ℕ) (vs : List ℕ) → length vs ≡ P → P ≤ 4 → ((j : ℕ) → j < P → Holds t (get_or sees.now j all_x) (get_or vs j X))
+        → Holds t result (even_gate (k / 2) (others vs i)) }
 {
-    let first = unit::pin_lanes(c, masks, words, n, 1, row);
-    let second = unit::pin_lanes(c, masks, words, n, 2, row);
-    give_pin(c, masks, words, n, 1, row, implies(k, v, first, second));
-    give_pin(c, masks, words, n, 2, row, implies(k, v, second, first));
+    if P == 1 {
+        return Lanes::X;
+    }
+    if i + 1 < P {
+        return with_rest(k, sees, P - 1, i, sees[P - 1]);
+    }
+    with_rest(k, sees, P - 2, i, sees[P - 2])
 }
 
-// A gate with three pins.
-fn down_three(c: &[u8], masks: &[u64], words: &mut [u64], n: usize, k: u8, row: usize, v: Lanes)
-    requires { (GateAt c.now masks.now words.old n k row) × (pin_count c.now n ≡ 3) }
+// A gate with P pins, at v before it inverts, implies them.
+fn down_pins<const P: usize>(
+    c: &[u8],
+    masks: &[u64],
+    words: &mut [u64],
+    n: usize,
+    k: u8,
+    row: usize,
+    v: Lanes,
+)
+    requires { (GateAt c.now masks.now words.old n k row) × (pin_count c.now n ≡ P) × (P ≡ 1 → k ≤ 3) }
     ensures { PinsGiven c.now masks.now words.old words.new n k row v }
 {
-    let first = unit::pin_lanes(c, masks, words, n, 1, row);
-    let second = unit::pin_lanes(c, masks, words, n, 2, row);
-    let third = unit::pin_lanes(c, masks, words, n, 3, row);
-    give_pin(
-        c,
-        masks,
-        words,
-        n,
-        1,
-        row,
-        implies(k, v, first, second.combine(k, third)),
-    );
-    give_pin(
-        c,
-        masks,
-        words,
-        n,
-        2,
-        row,
-        implies(k, v, second, first.combine(k, third)),
-    );
-    give_pin(
-        c,
-        masks,
-        words,
-        n,
-        3,
-        row,
-        implies(k, v, third, first.combine(k, second)),
-    );
-}
-
-// A gate with four pins.
-fn down_four(c: &[u8], masks: &[u64], words: &mut [u64], n: usize, k: u8, row: usize, v: Lanes)
-    requires { (GateAt c.now masks.now words.old n k row) × (pin_count c.now n ≡ 4) }
-    ensures { PinsGiven c.now masks.now words.old words.new n k row v }
-{
-    let first = unit::pin_lanes(c, masks, words, n, 1, row);
-    let second = unit::pin_lanes(c, masks, words, n, 2, row);
-    let third = unit::pin_lanes(c, masks, words, n, 3, row);
-    let fourth = unit::pin_lanes(c, masks, words, n, 4, row);
-    let last = third.combine(k, fourth);
-    give_pin(
-        c,
-        masks,
-        words,
-        n,
-        1,
-        row,
-        implies(k, v, first, second.combine(k, last)),
-    );
-    give_pin(
-        c,
-        masks,
-        words,
-        n,
-        2,
-        row,
-        implies(k, v, second, first.combine(k, last)),
-    );
-    let rest = first.combine(k, second.combine(k, fourth));
-    give_pin(c, masks, words, n, 3, row, implies(k, v, third, rest));
-    let rest = first.combine(k, second.combine(k, third));
-    give_pin(c, masks, words, n, 4, row, implies(k, v, fourth, rest));
+    let mut sees = [Lanes::X; P];
+    for i in 0..P {
+        sees[i] = unit::pin_lanes(c, masks, words, n, i + 1, row);
+    }
+    for i in 0..P {
+        let x = implies(k, v, sees[i], others(k, &sees, i));
+        give_pin(c, masks, words, n, i + 1, row, x);
+    }
 }
 
 // A gate line that is specified and not stuck implies pins; in all other lanes it is X here, which implies nothing.
@@ -152,35 +117,33 @@ fn down_gate(c: &[u8], masks: &[u64], words: &mut [u64], n: usize, k: u8, row: u
     let v = lanes::read(words, n).unless(stuck).finish(k);
     let pins = circuit::pins_of(c, n);
     match pins {
-        0..=1 => down_one(c, masks, words, n, k, row, v),
-        2 => down_two(c, masks, words, n, k, row, v),
-        3 => down_three(c, masks, words, n, k, row, v),
-        _ => down_four(c, masks, words, n, k, row, v),
+        0..=1 => down_pins::<1>(c, masks, words, n, k, row, v),
+        2 => down_pins::<2>(c, masks, words, n, k, row, v),
+        3 => down_pins::<3>(c, masks, words, n, k, row, v),
+        _ => down_pins::<4>(c, masks, words, n, k, row, v),
     }
 }
 
 // Line n's step down.
-fn down_line(c: &[u8], hits: &[u8], masks: &[u64], words: &mut [u64], lines: usize, n: usize)
-    requires { (Passable c.now hits.now masks.now words.old lines) × (n < lines) }
-    ensures { SteppedDown c.now masks.now words.old words.new n (get_or hits.now n 0) }
+fn down_line(c: &[u8], given: &GivenFaults, words: &mut [u64], lines: usize, n: usize)
+    requires { (Passable c.now given.now.hits.now given.now.masks.now words.old lines) × (n < lines) }
+    ensures { SteppedDown c.now given.now.masks.now words.old words.new n (get_or given.now.hits.now n 0) }
 {
     let k = circuit::field(c, n, circuit::KIND);
     if k < 2 {
         return;
     }
-    let row = basics::wide(hits[n]);
-    down_gate(c, masks, words, n, k, row);
+    let row = usize::from(given.hits[n]);
+    down_gate(c, given.masks, words, n, k, row);
 }
 
 // Down, from line N - 1 to 0.
-fn down_pass(c: &[u8], hits: &[u8], masks: &[u64], words: &mut [u64], lines: usize)
-    requires { Passable c.now hits.now masks.now words.old lines }
-    ensures { PassedDown c.now hits.now masks.now words.old words.new }
+fn down_pass(c: &[u8], given: &GivenFaults, words: &mut [u64], lines: usize)
+    requires { Passable c.now given.now.hits.now given.now.masks.now words.old lines }
+    ensures { PassedDown c.now given.now.hits.now given.now.masks.now words.old words.new }
 {
-    let mut n = lines;
-    while 0 < n {
-        n -= 1;
-        down_line(c, hits, masks, words, lines, n);
+    for n in (0..lines).rev() {
+        down_line(c, given, words, lines, n);
     }
 }
 
@@ -196,35 +159,25 @@ fn up_gate(c: &[u8], pins: &[u16], masks: &[u64], words: &mut [u64], n: usize, k
 }
 
 // Line n's step up.
-fn up_line(
-    c: &[u8],
-    pins: &[u16],
-    hits: &[u8],
-    masks: &[u64],
-    words: &mut [u64],
-    lines: usize,
-    n: usize,
-)
-    requires { (Passable c.now hits.now masks.now words.old lines) × (PinTable c.now pins.now) × (n < lines) }
-    ensures { SteppedUp c.now masks.now words.old words.new n (get_or hits.now n 0) }
+fn up_line(c: &[u8], pins: &[u16], given: &GivenFaults, words: &mut [u64], lines: usize, n: usize)
+    requires { (Passable c.now given.now.hits.now given.now.masks.now words.old lines) × (PinTable c.now pins.now) × (n < lines) }
+    ensures { SteppedUp c.now given.now.masks.now words.old words.new n (get_or given.now.hits.now n 0) }
 {
     let k = circuit::field(c, n, circuit::KIND);
     if k < 2 {
         return;
     }
-    let row = basics::wide(hits[n]);
-    up_gate(c, pins, masks, words, n, k, row);
+    let row = usize::from(given.hits[n]);
+    up_gate(c, pins, given.masks, words, n, k, row);
 }
 
 // Up, from 0.
-fn up_pass(c: &[u8], pins: &[u16], hits: &[u8], masks: &[u64], words: &mut [u64], lines: usize)
-    requires { (Passable c.now hits.now masks.now words.old lines) × (PinTable c.now pins.now) }
-    ensures { PassedUp c.now hits.now masks.now words.old words.new }
+fn up_pass(c: &[u8], pins: &[u16], given: &GivenFaults, words: &mut [u64], lines: usize)
+    requires { (Passable c.now given.now.hits.now given.now.masks.now words.old lines) × (PinTable c.now pins.now) }
+    ensures { PassedUp c.now given.now.hits.now given.now.masks.now words.old words.new }
 {
-    let mut n: usize = 0;
-    while n < lines {
-        up_line(c, pins, hits, masks, words, lines, n);
-        n += 1;
+    for n in 0..lines {
+        up_line(c, pins, given, words, lines, n);
     }
 }
 
@@ -234,27 +187,18 @@ pub fn conflicts(words: &[u64], lines: usize) -> u64
     ensures { (t : ℕ) (vs : List ℕ) → length vs ≡ lines → Follows t words.now vs → bit t result ≡ has_conflict vs }
 {
     let mut found: u64 = 0;
-    let mut n: usize = 0;
-    while n < lines {
-        found = found | lanes::read(words, n).conflicts();
-        n += 1;
+    for n in 0..lines {
+        found |= lanes::read(words, n).conflicts();
     }
     found
 }
 
 // Both passes, over line values in which each lane has been given what it tries; the lanes that have met a conflict.
-pub fn imply(
-    c: &[u8],
-    pins: &[u16],
-    hits: &[u8],
-    masks: &[u64],
-    words: &mut [u64],
-    lines: usize,
-) -> u64
-    requires { (Passable c.now hits.now masks.now words.old lines) × (PinTable c.now pins.now) }
-    ensures { Implied c.now hits.now masks.now words.old words.new result }
+pub fn imply(c: &[u8], pins: &[u16], given: &GivenFaults, words: &mut [u64], lines: usize) -> u64
+    requires { (Passable c.now given.now.hits.now given.now.masks.now words.old lines) × (PinTable c.now pins.now) }
+    ensures { Implied c.now given.now.hits.now given.now.masks.now words.old words.new result }
 {
-    down_pass(c, hits, masks, words, lines);
-    up_pass(c, pins, hits, masks, words, lines);
+    down_pass(c, given, words, lines);
+    up_pass(c, pins, given, words, lines);
     conflicts(words, lines)
 }

@@ -1,63 +1,51 @@
--- What a job's check gives, and how rows are joined to it.
+-- What a job's check gives, and how it joins its rows.
 use mathlib.Core.Path.{◌≡◌, sym, ap, ◌∙◌}
 use mathlib.Core.List.{List}
 use mathlib.Core.Option.{none, some}
 use Prim.Native.Nat.{ℕ, ◌+◌, ◌*◌, ◌≤◌}
 use native.Mathlib.Nat.{mul-le-mul}
 use native.Mathlib.Omega.{arith}
-use Rattle.lists.specs.Scan.{◌else◌}
-use Rattle.lists.proofs.Scan.{else_found, else_assoc}
+use Rattle.std.specs.Prelude.{Result, Ok, Err}
 use Rattle.model.specs.Inputs.{O, L}
 use Rattle.model.specs.Accepted.{ValidInputs}
-use Rattle.model.specs.Refusals.{Refusal, input_rows}
-use Rattle.model.proofs.Accepted.{valid_inputs}
-use Rattle.rules.specs.Check.{refusal_of}
-use Rattle.rules.specs.declared.Check.{Check}
-use Rattle.job.specs.Job.{job_refusal_of, JobOf, JobChecked, Unless, Limited}
+use Rattle.model.specs.Refusals.{Answer, answer}
+use Rattle.model.specs.Refusals as model
+use Rattle.rules.specs.Check.{number_of, refusal_of}
+use Rattle.rules.specs.declared.Refusal.{Refusal}
+use Rattle.rules.proofs.Laws.{HandsOn, not_ok}
+use Rattle.job.specs.Job.{answer_of, JobOf, JobChecked, Limited}
 use Rattle.job.specs.declared.Job.{Job}
-use Rattle.job.specs.declared.JobCheck.{JobCheck}
-use Rattle.job.specs.declared.JobCheck.TheVariants.{Ready, Broken}
 
-pub broken_unready : (rule at : ℕ) (j : Job) → Broken rule at ≡ Ready j → ⊥
-broken_unready rule at j e = let z : ◌≡◌ {A = ℕ} 0 1 = cc in (let w : ⊥ = omega arith in w)
-
-module _ {c t : List ℕ} {rows : Refusal} where
+module _ {c t : List ℕ} {rows : model.Refusal} {r : Result Job Refusal} where
   -- a job that is ready breaks no row
-  pub ready-none : {r : JobCheck} {j : Job} → JobChecked c t rows r → r ≡ Ready j → rows ≡ none
-  unfolding job_refusal_of
-  ready-none checked e = sym checked.refusal ∙ ap job_refusal_of e
+  pub ready-none : {j : Job} → JobChecked c t rows r → r ≡ Ok j → rows ≡ none
+  unfolding refusal_of
+  ready-none checked e = sym checked.refusal ∙ ap refusal_of e
 
   -- one that is not breaks the row that is named
-  pub broken_some : {r : JobCheck} {rule at : ℕ} → JobChecked c t rows r → r ≡ Broken rule at → rows ≡ some (rule, at)
-  unfolding job_refusal_of
-  broken_some checked e = sym checked.refusal ∙ ap job_refusal_of e
+  pub broken_some : {e : Refusal} → JobChecked c t rows r → r ≡ Err e → rows ≡ some (number_of e.rule, e.at)
+  unfolding refusal_of
+  broken_some checked e = sym checked.refusal ∙ ap refusal_of e
 
-  -- how a check's answer is made
-  pub is-ready : {j : Job} → rows ≡ none → JobOf c t j → JobChecked c t rows (Ready j)
-  unfolding job_refusal_of
-  is-ready {j} e of = record { refusal = sym e; job = λ i same. let q : j ≡ i = cc in rw (← q) of }
+  -- how a check's answer is made: where a `?` ends it
+  pub is_broken : {e : Refusal} → HandsOn r e → refusal_of r ≡ rows → JobChecked c t rows r
+  is_broken h told = record { refusal = told; job = λ j e. absurd (not_ok h e) }
 
-  pub is_broken : {rule at : ℕ} → rows ≡ some (rule, at) → JobChecked c t rows (Broken rule at)
-  unfolding job_refusal_of
-  is_broken e = record { refusal = sym e; job = λ i same. absurd (broken_unready _ _ i same) }
+-- and where no row is broken
+pub is-ready : {c t : List ℕ} {rows : model.Refusal} {j : Job} → none ≡ rows → JobOf c t j → JobChecked c t rows (Ok j)
+unfolding refusal_of
+is-ready {j = j} e of = record { refusal = e; job = λ i same. let q : j ≡ i = cc in rw (← q) of }
 
-module _ {c t : List ℕ} {rows : Refusal} where
-  -- what is broken stays broken, whatever is joined
-  pub stays_broken : {r : JobCheck} {rule at : ℕ} (more : Refusal) → JobChecked c t rows r → r ≡ Broken rule at → JobChecked c t (rows else more) (Broken rule at)
-  stays_broken more checked e = is_broken (else_found _ _ _ (broken_some checked e))
+-- ---- a call that hands on a refusal answers so
+pub handed_on : {r : Result ℕ Refusal} {e : Refusal} {a : Answer} → HandsOn r e → answer_of (Err e) ≡ a → answer_of r ≡ a
+handed_on h told = ap answer_of h.1 ∙ ap (λ x. answer_of (Err x)) h.2 ∙ told
 
-  -- a later row is joined
-  pub joined : {before r : JobCheck} {later : Check} {more : Refusal} → JobChecked c t rows before → refusal_of later ≡ more → Unless before later r → JobChecked c t (rows else more) r
-  joined checked e u = record { refusal = u.refusal ∙ rw (checked.refusal, e); job = λ j ready. checked.job j (u.job j ready) }
+-- the same, by the rows that it breaks
+pub refuses : {r : Result ℕ Refusal} {e : Refusal} {rows : model.Refusal} (size : ℕ) → HandsOn r e → some (number_of e.rule, e.at) ≡ rows → answer_of r ≡ answer rows size
+unfolding answer_of answer
+refuses size h told = handed_on h (ap (λ rows. answer rows size) told)
 
-  -- a later row is joined that is asked of the sizes
-  pub joined-ready : {before r : JobCheck} {j : Job} {later : Check} {more : Refusal} → JobChecked c t rows before → before ≡ Ready j → (JobOf c t j → refusal_of later ≡ more) → Unless (Ready j) later r → JobChecked c t (rows else more) r
-  joined-ready checked e asked u = let job = checked.job _ e in joined (is-ready (ready-none checked e) job) (asked job) u
-
--- the table joins its rows from the right
-pub regrouped : {c t : List ℕ} {r : JobCheck} (a b d : Refusal) → JobChecked c t ((a else b) else d) r → JobChecked c t (a else (b else d)) r
-regrouped a b d checked = rw (else_assoc a b d) at checked
-
+-- ---- sizes
 -- the sizes of a job whose inputs are accepted
 pub limited : {c t fs : List ℕ} {least most : ℕ} {j : Job} → ValidInputs c t least most fs → JobOf c t j → Limited j
 limited valid of = record {
@@ -66,10 +54,6 @@ limited valid of = record {
   outputs = rw of.outputs valid.circuit.outputs;
   units = rw of.units valid.test.most;
 }
-
--- the same, where the rows of the inputs are passed
-pub ready_limits : {c t : List ℕ} (fs : List ℕ) (least most : ℕ) {r : JobCheck} {j : Job} → JobChecked c t (input_rows c t least most fs) r → r ≡ Ready j → Limited j
-ready_limits fs least most checked e = limited (valid_inputs _ _ _ _ _ (ready-none checked e)) (checked.job _ e)
 
 -- the bytes that row 13 asks for, but for those of the lines
 pub area-limit : {j : Job} → Limited j → j.units * (4 * j.outputs + 16 * j.flops + 8) ≤ 1024 * 5128

@@ -1,23 +1,23 @@
 -- The bits of AND, OR and XOR of words, and of words that are written out.
-use mathlib.Core.Path.{◌≡◌, refl, ap, ◌∙◌}
+use mathlib.Core.Path.{◌≡◌, refl, ◌∙◌}
 use mathlib.Core.Bool.{Bool, true, false, ◌&&◌, ◌||◌, not}
-use Prim.Native.Nat.{ℕ, zero, suc, ◌+◌, ◌-◌, ◌*◌, ◌/◌, ◌%◌, ◌^◌, ◌<◌, min, max}
+use Prim.Native.Nat.{ℕ, zero, suc, ◌+◌, ◌-◌, ◌*◌, ◌/◌, ◌%◌, ◌^◌, ◌<◌, ◌≤◌, min, max}
 use native.Mathlib.Omega.{arith}
 use native.Mathlib.Decide.{dec_le}
 use native.Mathlib.Nat.{zero-div}
 use lib.Dec.{eqb, ltb}
+use Rattle.std.specs.Int.{w64}
+use Rattle.std.proofs.lemmas.Nat.Bits.{bit_at-lt, bit_at_and, bit_at_or, bit_at_xor, bit_at_not, bit_at_ones, bit_at_above}
 use Rattle.lists.proofs.Tests.{and_left, and_right}
-use lib.Bits.{bit_and, bit_or, bit_xor, differ, and_shr, or_shr, xor_shr, and_step, or_step, xor_step, xor_zero_r}
+use lib.Bits.{bit_and, bit_or, bit_xor, xor_add_and}
+use Rattle.std.proofs.lemmas.Nat.{and_mask}
 use Rattle.lanes.specs.Lane.{bit}
-
-low : (q r : ℕ) → r < 2 → (q * 2 + r) % 2 ≡ r
-low q r h = omega arith
 
 unfoldable pub xor_b : Bool → Bool → Bool
 xor_b true b = not b
 xor_b false b = b
 
--- what min, max and differ of two digits are as tests
+-- what min, max and a sum of two digits are as tests
 digits : (P : ℕ → ℕ → Type 0) → P 0 0 → P 0 1 → P 1 0 → P 1 1 → (r s : ℕ) → r < 2 → s < 2 → P r s
 digits P a b c d zero zero h g = a
 digits P a b c d zero (suc zero) h g = b
@@ -27,36 +27,32 @@ digits P a b c d (suc zero) (suc zero) h g = d
 digits P a b c d (suc zero) (suc (suc s)) h g = absurd (let z : ⊥ = omega arith in z)
 digits P a b c d (suc (suc r)) s h g = absurd (let z : ⊥ = omega arith in z)
 
-digit_and : (r s : ℕ) → r < 2 → s < 2 → (min r s < 2) × (eqb (min r s) 1 ≡ (eqb r 1 && eqb s 1))
-digit_and = digits (λ r s. (min r s < 2) × (eqb (min r s) 1 ≡ (eqb r 1 && eqb s 1))) (omega arith, refl) (omega arith, refl) (omega arith, refl) (omega arith, refl)
+digit_and : (r s : ℕ) → r < 2 → s < 2 → eqb (min r s) 1 ≡ (eqb r 1 && eqb s 1)
+digit_and = digits (λ r s. eqb (min r s) 1 ≡ (eqb r 1 && eqb s 1)) refl refl refl refl
 
-digit_or : (r s : ℕ) → r < 2 → s < 2 → (max r s < 2) × (eqb (max r s) 1 ≡ (eqb r 1 || eqb s 1))
-digit_or = digits (λ r s. (max r s < 2) × (eqb (max r s) 1 ≡ (eqb r 1 || eqb s 1))) (omega arith, refl) (omega arith, refl) (omega arith, refl) (omega arith, refl)
+digit_or : (r s : ℕ) → r < 2 → s < 2 → eqb (max r s) 1 ≡ (eqb r 1 || eqb s 1)
+digit_or = digits (λ r s. eqb (max r s) 1 ≡ (eqb r 1 || eqb s 1)) refl refl refl refl
 
-digit-xor : (r s : ℕ) → r < 2 → s < 2 → (differ r s < 2) × (eqb (differ r s) 1 ≡ xor_b (eqb r 1) (eqb s 1))
+digit-xor : (r s : ℕ) → r < 2 → s < 2 → eqb ((r + s) % 2) 1 ≡ xor_b (eqb r 1) (eqb s 1)
 unfolding xor_b
-digit-xor = digits (λ r s. (differ r s < 2) × (eqb (differ r s) 1 ≡ xor_b (eqb r 1) (eqb s 1))) (omega arith, refl) (omega arith, refl) (omega arith, refl) (omega arith, refl)
+digit-xor = digits (λ r s. eqb ((r + s) % 2) 1 ≡ xor_b (eqb r 1) (eqb s 1)) refl refl refl refl
 
-half : (x : ℕ) → x % 2 < 2
-half x = omega arith
+digit_not : (r : ℕ) → r < 2 → eqb (1 - r) 1 ≡ not (eqb r 1)
+digit_not zero h = refl
+digit_not (suc zero) h = refl
+digit_not (suc (suc r)) h = absurd (let z : ⊥ = omega arith in z)
 
 pub bit-and : (t a b : ℕ) → bit t (bit_and a b) ≡ (bit t a && bit t b)
 unfolding bit
-bit-and t a b =
-    let d = digit_and (a / 2 ^ t % 2) (b / 2 ^ t % 2) (half _) (half _) in
-    rw (and_shr a b t, and_step (a / 2 ^ t) (b / 2 ^ t), low _ _ d.0) d.1
+bit-and t a b = rw (bit_at_and a b t) (digit_and _ _ (bit_at-lt a t) (bit_at-lt b t))
 
 pub bit-or : (t a b : ℕ) → bit t (bit_or a b) ≡ (bit t a || bit t b)
 unfolding bit
-bit-or t a b =
-    let d = digit_or (a / 2 ^ t % 2) (b / 2 ^ t % 2) (half _) (half _) in
-    rw (or_shr a b t, or_step (a / 2 ^ t) (b / 2 ^ t), low _ _ d.0) d.1
+bit-or t a b = rw (bit_at_or a b t) (digit_or _ _ (bit_at-lt a t) (bit_at-lt b t))
 
 pub bit-xor : (t a b : ℕ) → bit t (bit_xor a b) ≡ xor_b (bit t a) (bit t b)
 unfolding bit
-bit-xor t a b =
-    let d = digit-xor (a / 2 ^ t % 2) (b / 2 ^ t % 2) (half _) (half _) in
-    rw (xor_shr a b t, xor_step (a / 2 ^ t) (b / 2 ^ t), low _ _ d.0) d.1
+bit-xor t a b = rw (bit_at_xor a b t) (digit-xor _ _ (bit_at-lt a t) (bit_at-lt b t))
 
 without : (x k : Bool) → xor_b (x || k) k ≡ (x && not k)
 unfolding xor_b
@@ -68,6 +64,21 @@ without false false = refl
 -- the bits of x that k does not have
 pub bit-without : (t x k : ℕ) → bit t (bit_xor (bit_or x k) k) ≡ (bit t x && not (bit t k))
 bit-without t x k = rw (bit-xor t (bit_or x k) k, bit-or t x k) (without (bit t x) (bit t k))
+
+-- the bits of the inverse, and of x without those of k: no bit is above a word's own
+pub bit-not : (t k : ℕ) → t < 64 → k < 2 ^ 64 → bit t (0xffffffffffffffff - k) ≡ not (bit t k)
+unfolding bit
+bit-not t k low h = rw (bit_at_not w64 k t h low) (digit_not _ (bit_at-lt k t))
+
+bit_above : (t x : ℕ) → x < 2 ^ 64 → 64 ≤ t → bit t x ≡ false
+unfolding bit
+bit_above t x h g = rw (bit_at_above x 64 t h g)
+
+pub bit-but : (t x k : ℕ) → x < 2 ^ 64 → k < 2 ^ 64 → bit t (bit_and x (0xffffffffffffffff - k)) ≡ (bit t x && not (bit t k))
+bit-but t x k l h = bit-and t x (0xffffffffffffffff - k) ∙ elim (dec_le (suc t) 64) [
+  | yes g ↦ rw (bit-not t k g h)
+  | no g ↦ rw (bit_above t x l (omega arith))
+]
 
 pub bit-none : (t : ℕ) → bit t 0 ≡ false
 unfolding bit
@@ -87,8 +98,8 @@ every-at test (suc n) t e h = elim (dec_le (suc t) n) [
 ]
 
 pub bit-all : (t : ℕ) → t < 64 → bit t 0xffffffffffffffff ≡ true
-unfolding bit every
-bit-all t h = every-at (λ t. bit t 0xffffffffffffffff) 64 t refl h
+unfolding bit
+bit-all t h = rw (bit_at_ones 64 t h)
 
 unfoldable pub same : Bool → Bool → Bool
 same true b = b
@@ -116,14 +127,14 @@ bit_below s n h g =
     (every-at (λ s. every (λ n. same (bit s (1 * 2 ^ n % 0x10000000000000000 - 1)) (ltb s n)) 64) 64 s refl h) g)
 
 -- ---- the other number of a pair
-xor-one : (x : ℕ) → bit_xor x 1 ≡ x / 2 * 2 + differ (x % 2) 1
-xor-one x = xor_step x 1 ∙ ap (λ h. h * 2 + differ (x % 2) 1) (xor_zero_r (x / 2))
+other : (x : ℕ) → bit_xor x 1 + x % 2 * 2 ≡ x + 1
+other x = rw (and_mask x 1) at (xor_add_and x 1)
 
 pub other-odd : (x m : ℕ) → x ≡ 2 * m → bit_xor x 1 ≡ 2 * m + 1
-other-odd x m e = let r : x % 2 ≡ 0 = omega arith in xor-one x ∙ rw r (omega arith)
+other-odd x m e = omega (arith, other x)
 
 pub other_even : (x m : ℕ) → x ≡ 2 * m + 1 → bit_xor x 1 ≡ 2 * m
-other_even x m e = let r : x % 2 ≡ 1 = omega arith in xor-one x ∙ rw r (omega arith)
+other_even x m e = omega (arith, other x)
 
 pub other-near : (x : ℕ) → bit_xor x 1 < 2 * (x / 2 + 1)
-other-near x = rw (xor-one x) (omega (arith, (digit-xor (x % 2) 1 (half x) (omega arith)).0))
+other-near x = omega (arith, other x)

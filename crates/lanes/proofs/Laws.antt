@@ -1,20 +1,20 @@
 -- The gates in one lane, and words stored and read.
 use mathlib.Core.Path.{◌≡◌, refl, sym, ◌∙◌, ap}
-use mathlib.Core.Bool.{Bool, true, false, cond, ◌&&◌, ◌||◌, true≢false, and-true, and-false, or-false}
+use mathlib.Core.Bool.{Bool, true, false, cond, ◌&&◌, ◌||◌, not, true≢false, and-true, and-false, or-false}
 use mathlib.Core.List.{List, [], ◌∷◌, ◌++◌}
-use Prim.Native.Nat.{ℕ, zero, suc, ◌/◌, ◌+◌, ◌*◌, ◌%◌, ◌^◌, ◌<◌, ◌≤◌}
+use Prim.Native.Nat.{ℕ, zero, suc, ◌/◌, ◌+◌, ◌-◌, ◌*◌, ◌%◌, ◌^◌, ◌<◌, ◌≤◌}
 use native.Mathlib.Omega.{arith}
 use native.Mathlib.Decide.{dec_le}
 use lib.Dec.{eqb}
 use borrow.Author.Tests.{eqb-true, eq-eqb, lt-leb, le-leb}
 use lib.ListN.{get_or, length, set, length-set, length-append, get_or-append}
 use lib.Seq.{get_or_at, get_or-set_same, get_or-set_other}
-use lib.Bits.{bit_and, bit_or, bit_xor}
+use lib.Bits.{bit_and, bit_or, bit_xor, or_lt}
 use Rattle.lists.proofs.Tests.{by-test}
 use Rattle.model.specs.Values.{X, is_specified, invert, and_pair, xor_pair, and_of, or_of, invert_all, xor_of, even_gate, invert_if, opposes, give}
 use Rattle.lanes.specs.declared.Lanes.{Lanes}
 use Rattle.lanes.specs.Lane.{bit, is0, is1, Shows, Holds, Conflict, lanes_at, At, stored, Room, turned_if, Lane, Given}
-use Rattle.lanes.proofs.Bits.{bit-and, bit-or, bit-xor, bit-without, bit-none, bit-all, bit-one, xor_b, other-odd, other_even}
+use Rattle.lanes.proofs.Bits.{bit-and, bit-or, bit-but, bit-not, bit-none, bit-all, bit-one, other-odd, other_even}
 
 pub is0-inv : (v : ℕ) → is0 (invert v) ≡ is1 v
 unfolding is0 is1 invert
@@ -92,11 +92,11 @@ module _ (t : ℕ) where
 
 -- a stuck place: set in one word, taken out of the other
 masked : (x on off : Bool) → Bool
-masked x on off = xor_b (x || off) off || on
+masked x on off = (x && not off) || on
 
 is_stuck_lem : (hit : Bool) (s v : ℕ) → s < 2
     → (masked (is0 v) (is0 (cond hit s 2)) (is1 (cond hit s 2)) ≡ is0 (cond hit s v)) × (masked (is1 v) (is1 (cond hit s 2)) (is0 (cond hit s 2)) ≡ is1 (cond hit s v))
-unfolding is0 is1 masked xor_b
+unfolding is0 is1 masked
 is_stuck_lem false s zero h = (refl, refl)
 is_stuck_lem false s (suc zero) h = (refl, refl)
 is_stuck_lem false s (suc (suc v)) h = (refl, refl)
@@ -108,55 +108,51 @@ is_stuck_lem true (suc zero) (suc zero) h = (refl, refl)
 is_stuck_lem true (suc zero) (suc (suc v)) h = (refl, refl)
 is_stuck_lem true (suc (suc s)) v h = absurd (let z : ⊥ = omega arith in z)
 
-pub shows-stuck : (t z o v a b : ℕ) (hit : Bool) (s : ℕ) → s < 2 → Shows t a b (cond hit s 2) → Shows t z o v
-    → Shows t (bit_or (bit_xor (bit_or z b) b) a) (bit_or (bit_xor (bit_or o a) a) b) (cond hit s v)
+pub shows-stuck : (t z o v a b : ℕ) (hit : Bool) (s : ℕ) → z < 2 ^ 64 → o < 2 ^ 64 → a < 2 ^ 64 → b < 2 ^ 64
+    → s < 2 → Shows t a b (cond hit s 2) → Shows t z o v → Shows t (bit_or (bit_and z (0xffffffffffffffff - b)) a) (bit_or (bit_and o (0xffffffffffffffff - a)) b) (cond hit s v)
 unfolding masked
-shows-stuck t z o v a b hit s l m h = record {
-  zero? = rw (bit-or t (bit_xor (bit_or z b) b) a, bit-xor t (bit_or z b) b, bit-or t z b, m.zero?, m.one?, h.zero?) (is_stuck_lem hit s v l).0;
-  one? = rw (bit-or t (bit_xor (bit_or o a) a) b, bit-xor t (bit_or o a) a, bit-or t o a, m.zero?, m.one?, h.one?) (is_stuck_lem hit s v l).1;
+shows-stuck t z o v a b hit s hz ho ha hb l m h = record {
+  zero? = rw (bit-or t (bit_and z (0xffffffffffffffff - b)) a, bit-but t z b hz hb, m.zero?, m.one?, h.zero?) (is_stuck_lem hit s v l).0;
+  one? = rw (bit-or t (bit_and o (0xffffffffffffffff - a)) b, bit-but t o a ho ha, m.zero?, m.one?, h.one?) (is_stuck_lem hit s v l).1;
 }
 
 -- a place that is X where another is known
-cleared : (x known : Bool) → Bool
-cleared x known = xor_b (x || known) known
-
-cleared_where : (x : Bool) → (cleared x true ≡ false) × (cleared x false ≡ x)
-unfolding cleared xor_b
-cleared_where true = (refl, refl)
-cleared_where false = (refl, refl)
-
 known : (a : ℕ) → (is0 a || is1 a) ≡ is_specified a
 unfolding is0 is1
 known zero = refl
 known (suc zero) = refl
 known (suc (suc a)) = sym (lt-leb (suc (suc a)) 1 (omega arith))
 
-is-unless : (v : ℕ) (k : Bool) → (cleared (is0 v) k ≡ is0 (cond k 2 v)) × (cleared (is1 v) k ≡ is1 (cond k 2 v))
+is-unless : (v : ℕ) (k : Bool) → ((is0 v && not k) ≡ is0 (cond k 2 v)) × ((is1 v && not k) ≡ is1 (cond k 2 v))
 unfolding is0 is1
-is-unless v true = ((cleared_where (is0 v)).0, (cleared_where (is1 v)).0)
-is-unless v false = ((cleared_where (is0 v)).1, (cleared_where (is1 v)).1)
+is-unless v true = (and-false _, and-false _)
+is-unless v false = (and-true _, and-true _)
 
-pub shows-unless : (t z o v p q a : ℕ) → Shows t z o v → Shows t p q a → Shows t (bit_xor (bit_or z (bit_or p q)) (bit_or p q)) (bit_xor (bit_or o (bit_or p q)) (bit_or p q)) (cond (is_specified a) 2 v)
-unfolding cleared
-shows-unless t z o v p q a h g = record {
-  zero? = rw (bit-xor t (bit_or z (bit_or p q)) (bit_or p q), bit-or t z (bit_or p q), bit-or t p q, h.zero?, g.zero?, g.one?, known a) (is-unless v (is_specified a)).0;
-  one? = rw (bit-xor t (bit_or o (bit_or p q)) (bit_or p q), bit-or t o (bit_or p q), bit-or t p q, h.one?, g.zero?, g.one?, known a) (is-unless v (is_specified a)).1;
-}
+pub shows-unless : (t z o v p q a : ℕ) → z < 2 ^ 64 → o < 2 ^ 64 → p < 2 ^ 64 → q < 2 ^ 64 → Shows t z o v → Shows t p q a
+    → Shows t (bit_and z (0xffffffffffffffff - bit_or p q)) (bit_and o (0xffffffffffffffff - bit_or p q)) (cond (is_specified a) 2 v)
+shows-unless t z o v p q a hz ho hp hq h g =
+    let either : bit t (bit_or p q) ≡ is_specified a = bit-or t p q ∙ rw (g.zero?, g.one?) (known a) in
+    let low = or_lt 64 p q hp hq in
+    record {
+      zero? = rw (bit-but t z (bit_or p q) hz low, h.zero?, either) (is-unless v (is_specified a)).0;
+      one? = rw (bit-but t o (bit_or p q) ho low, h.one?, either) (is-unless v (is_specified a)).1;
+    }
 
 -- another's value in the lanes wanted
-module _ (t k : ℕ) where
-  merged : (x y : ℕ) (b : Bool) → (bit t k ≡ false → bit t x ≡ b) → (bit t k ≡ true → bit t y ≡ b) → bit t (bit_or (bit_xor (bit_or x k) k) (bit_and y k)) ≡ b
-  merged x y b f g =
-      rw (bit-or t (bit_xor (bit_or x k) k) (bit_and y k), bit-without t x k, bit-and t y k)
+module _ (t k : ℕ) (hk : k < 2 ^ 64) where
+  merged : (x y : ℕ) (b : Bool) → x < 2 ^ 64 → (bit t k ≡ false → bit t x ≡ b) → (bit t k ≡ true → bit t y ≡ b)
+      → bit t (bit_or (bit_and x (0xffffffffffffffff - k)) (bit_and y k)) ≡ b
+  merged x y b hx f g =
+      rw (bit-or t (bit_and x (0xffffffffffffffff - k)) (bit_and y k), bit-but t x k hx hk, bit-and t y k)
       (by-test (bit t k)
       (λ e. rw (e, and-false (bit t x)) (and-true (bit t y) ∙ g e))
       (λ e. rw (e, and-true (bit t x), and-false (bit t y)) (or-false (bit t x) ∙ f e)))
 
-  pub shows-merge : (z o z' o' v : ℕ) → (bit t k ≡ false → Shows t z o v) → (bit t k ≡ true → Shows t z' o' v)
-      → Shows t (bit_or (bit_xor (bit_or z k) k) (bit_and z' k)) (bit_or (bit_xor (bit_or o k) k) (bit_and o' k)) v
-  shows-merge z o z' o' v f g = record {
-    zero? = merged z z' (is0 v) (λ e. (f e).zero?) (λ e. (g e).zero?);
-    one? = merged o o' (is1 v) (λ e. (f e).one?) (λ e. (g e).one?);
+  pub shows-merge : (z o z' o' v : ℕ) → z < 2 ^ 64 → o < 2 ^ 64 → (bit t k ≡ false → Shows t z o v) → (bit t k ≡ true → Shows t z' o' v)
+      → Shows t (bit_or (bit_and z (0xffffffffffffffff - k)) (bit_and z' k)) (bit_or (bit_and o (0xffffffffffffffff - k)) (bit_and o' k)) v
+  shows-merge z o z' o' v hz ho f g = record {
+    zero? = merged z z' (is0 v) hz (λ e. (f e).zero?) (λ e. (g e).zero?);
+    one? = merged o o' (is1 v) ho (λ e. (f e).one?) (λ e. (g e).one?);
   }
 
 -- ---- lists of words
@@ -328,8 +324,8 @@ opposing_X t v (suc zero) h = absurd (let z : ⊥ = omega arith in z)
 opposing_X t v (suc (suc g)) h = bit-none t
 
 -- X, where a value is specified
-neither : (v : ℕ) → v < 3 → xor_b (is0 v || is1 v) true ≡ eqb v X
-unfolding is0 is1 xor_b
+neither : (v : ℕ) → v < 3 → not (is0 v || is1 v) ≡ eqb v X
+unfolding is0 is1
 neither zero h = refl
 neither (suc zero) h = refl
 neither (suc (suc zero)) h = refl
@@ -339,8 +335,8 @@ module _ (t g v : ℕ) where
   pub unknown-X : 1 < g → bit t 0 ≡ (is_specified g && eqb v X)
   unknown-X h = rw (lt-leb g 1 h) (bit-none t)
 
-  pub unknown-specified : (z o : ℕ) → g ≤ 1 → t < 64 → v < 3 → Shows t z o v → bit t (bit_xor (bit_or z o) 0xffffffffffffffff) ≡ (is_specified g && eqb v X)
-  unknown-specified z o h low three s = rw (le-leb g 1 h) (bit-xor t (bit_or z o) 0xffffffffffffffff ∙ rw (bit-or t z o, bit-all t low, s.zero?, s.one?) (neither v three))
+  pub unknown-specified : (z o : ℕ) → z < 2 ^ 64 → o < 2 ^ 64 → g ≤ 1 → t < 64 → v < 3 → Shows t z o v → bit t (0xffffffffffffffff - bit_or z o) ≡ (is_specified g && eqb v X)
+  unknown-specified z o hz ho h low three s = rw (le-leb g 1 h) (bit-not t (bit_or z o) low (or_lt 64 z o hz ho) ∙ rw (bit-or t z o, s.zero?, s.one?) (neither v three))
 
 -- ---- giving a value
 is-give : (v w : ℕ) → v < 3 → w < 3 → opposes v w ≡ false → ((is0 v || is0 w) ≡ is0 (give v w)) × ((is1 v || is1 w) ≡ is1 (give v w))

@@ -1,5 +1,6 @@
 // 64 values at once, one in each lane: two 64-bit words, known 0 and known 1. X is neither, a conflict is both. Giving a value is an OR, AND is
-// an AND of the ones and an OR of the zeros, inverting swaps the words.
+// an AND of the ones and an OR of the zeros, inverting swaps the words. A gate's kind and the value of one lane are the bytes that records and
+// rows have for them.
 #![tactic(auto)]
 
 ghost use Rattle.std.specs.Prelude.{Bool, true, false, cond, ◌&&◌, List, ◌∷◌, ◌≡◌, ℕ, ◌+◌, ◌*◌, ◌<◌, ◌≤◌, ◌/◌, ◌%◌, eqb};
@@ -16,13 +17,13 @@ impl Lanes {
     pub const X: Lanes = Lanes { zeros: 0, ones: 0 };
 
     pub const ZERO: Lanes = Lanes {
-        zeros: 0xffff_ffff_ffff_ffff,
+        zeros: u64::MAX,
         ones: 0,
     };
 
     pub const ONE: Lanes = Lanes {
         zeros: 0,
-        ones: 0xffff_ffff_ffff_ffff,
+        ones: u64::MAX,
     };
 
     // The same value in all lanes.
@@ -72,7 +73,8 @@ impl Lanes {
         }
     }
 
-    // By the gate's kind, before it inverts: one pin more in front of the others.
+    // By the gate's kind, before it inverts: one pin more in front of the others. A kind is the number in its record, here and in the crates
+    // above: `finish`, and `pins_fit` of rules, are asked of any number, and document 01 has kinds matched as numbers, with ranges.
     pub fn combine(self, kind: u8, rest: Lanes) -> Lanes
         requires { (2 ≤ kind) × (kind ≤ 9) }
         ensures { (t v : ℕ) (ws : List ℕ) → Holds t self v → Holds t rest (even_gate (kind / 2) ws) → Holds t result (even_gate (kind / 2) (v ∷ ws)) }
@@ -89,10 +91,7 @@ impl Lanes {
     pub fn finish(self, kind: u8) -> Lanes
         ensures { (t v : ℕ) → Holds t self v → Holds t result (invert_if (inverts kind) v) }
     {
-        if kind % 2 == 1 {
-            return self.invert();
-        }
-        self
+        if kind % 2 == 1 { self.invert() } else { self }
     }
 
     // Stuck where `at` is known, at its value.
@@ -100,8 +99,8 @@ impl Lanes {
         ensures { (t v : ℕ) (hit : Bool) (s : ℕ) → s < 2 → Holds t at (cond hit s X) → Holds t self v → Holds t result (cond hit s v) }
     {
         Lanes {
-            zeros: ((self.zeros | at.ones) ^ at.ones) | at.zeros,
-            ones: ((self.ones | at.zeros) ^ at.zeros) | at.ones,
+            zeros: (self.zeros & !at.ones) | at.zeros,
+            ones: (self.ones & !at.zeros) | at.ones,
         }
     }
 
@@ -111,8 +110,8 @@ impl Lanes {
     {
         let known = at.zeros | at.ones;
         Lanes {
-            zeros: (self.zeros | known) ^ known,
-            ones: (self.ones | known) ^ known,
+            zeros: self.zeros & !known,
+            ones: self.ones & !known,
         }
     }
 
@@ -121,8 +120,8 @@ impl Lanes {
         ensures { (t v : ℕ) → (bit t wanted ≡ false → Holds t self v) → (bit t wanted ≡ true → Holds t y v) → Holds t result v }
     {
         Lanes {
-            zeros: ((self.zeros | wanted) ^ wanted) | (y.zeros & wanted),
-            ones: ((self.ones | wanted) ^ wanted) | (y.ones & wanted),
+            zeros: (self.zeros & !wanted) | (y.zeros & wanted),
+            ones: (self.ones & !wanted) | (y.ones & wanted),
         }
     }
 
@@ -133,14 +132,15 @@ impl Lanes {
     {
         let one: u64 = 1 << t;
         if v == 0 {
-            return Lanes {
+            Lanes {
                 zeros: self.zeros | one,
-                ones: self.ones,
-            };
-        }
-        Lanes {
-            zeros: self.zeros,
-            ones: self.ones | one,
+                ..self
+            }
+        } else {
+            Lanes {
+                ones: self.ones | one,
+                ..self
+            }
         }
     }
 
@@ -179,7 +179,7 @@ impl Lanes {
         if 1 < value {
             return 0;
         }
-        (self.zeros | self.ones) ^ 0xffff_ffff_ffff_ffff
+        !(self.zeros | self.ones)
     }
 
     // The value in lane t.

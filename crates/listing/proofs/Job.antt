@@ -8,47 +8,49 @@ use lib.ListN.{length, take}
 use lib.Seq.{take_at}
 use Rattle.lists.specs.Field.{overwritten}
 use Rattle.model.specs.Inputs.{fault_count}
-use Rattle.model.specs.Refusals.{Refusal, answer, grade_refusal}
+use Rattle.std.specs.Prelude.{Result, Ok, Err}
+use Rattle.model.specs.Refusals.{answer, grade_refusal}
+use Rattle.model.specs.Refusals as model
 use Rattle.model.specs.Grade.{grade_bytes, grade_answer, grade_area}
 use Rattle.model.specs.Listing.{refused_line, job_lines}
 use Rattle.model.proofs.Accepted.{grade_ready, area-done}
 use Rattle.model.proofs.Records.{length-grade_bytes}
+use Rattle.rules.specs.Check.{number_of}
+use Rattle.rules.specs.declared.Refusal.{Refusal}
 use Rattle.job.specs.Job.{answer_of}
-use Rattle.job.specs.declared.Outcome.{Outcome}
-use Rattle.job.specs.declared.Outcome.TheVariants.{Done, Refused}
 use Rattle.listing.specs.Print.{job_print}
 
--- ---- an outcome and the refusal behind it
-module _ (size : ℕ) {r : Outcome} where
-  done_none : (rows : Refusal) (n : ℕ) → answer_of r ≡ answer rows size → r ≡ Done n → (rows ≡ none) × (n ≡ size)
+-- ---- an answer and the refusal behind it
+module _ (size : ℕ) {r : Result ℕ Refusal} where
+  done_none : (rows : model.Refusal) (n : ℕ) → answer_of r ≡ answer rows size → r ≡ Ok n → (rows ≡ none) × (n ≡ size)
   unfolding answer_of answer
   done_none none n e d = (refl, cc)
   done_none (some q) n e d = absurd (let z : ◌≡◌ {A = ℕ} 0 1 = cc in let w : ⊥ = omega arith in w)
 
-  refused-some : (rows : Refusal) (rule at : ℕ) → answer_of r ≡ answer rows size → r ≡ Refused rule at → rows ≡ some (rule, at)
+  refused-some : (rows : model.Refusal) (q : Refusal) → answer_of r ≡ answer rows size → r ≡ Err q → rows ≡ some (number_of q.rule, q.at)
   unfolding answer_of answer
-  refused-some none rule at e d = absurd (let z : ◌≡◌ {A = ℕ} 0 1 = cc in let w : ⊥ = omega arith in w)
-  refused-some (some (number, place)) rule at e d = cc
+  refused-some none q e d = absurd (let z : ◌≡◌ {A = ℕ} 0 1 = cc in let w : ⊥ = omega arith in w)
+  refused-some (some (number, place)) q e d = cc
 
 -- ---- the lines of the job
-pub record Graded (c t fs p : List ℕ) (r : Outcome) (area : List ℕ) : Type 0 where
-  pub refused : (rule at : ℕ) → r ≡ Refused rule at → refused_line rule at ≡ job_print c t fs p
-  pub all : (n : ℕ) → r ≡ Done n → n ≡ fault_count fs
-  pub few : (n : ℕ) → r ≡ Done n → n ≤ 4096
-  pub lines : (n : ℕ) → r ≡ Done n → job_lines none fs (take (16 * n) area) ≡ job_print c t fs p
+pub record Graded (c t fs p : List ℕ) (r : Result ℕ Refusal) (area : List ℕ) : Type 0 where
+  pub refused : (q : Refusal) → r ≡ Err q → refused_line (number_of q.rule) q.at ≡ job_print c t fs p
+  pub all : (n : ℕ) → r ≡ Ok n → n ≡ fault_count fs
+  pub few : (n : ℕ) → r ≡ Ok n → n ≤ 4096
+  pub lines : (n : ℕ) → r ≡ Ok n → job_lines none fs (take (16 * n) area) ≡ job_print c t fs p
 
-module _ (c t fs p : List ℕ) (work : ℕ) (old area : List ℕ) (w : work ≡ 65536) (l : length old ≡ 65536) {r : Outcome} (e : answer_of r ≡ grade_answer c t fs p 6 work (length old)) where
-  refused_print : (rule at : ℕ) → r ≡ Refused rule at → refused_line rule at ≡ job_print c t fs p
+module _ (c t fs p : List ℕ) (work : ℕ) (old area : List ℕ) (w : work ≡ 65536) (l : length old ≡ 65536) {r : Result ℕ Refusal} (e : answer_of r ≡ grade_answer c t fs p 6 work (length old)) where
+  refused_print : (q : Refusal) → r ≡ Err q → refused_line (number_of q.rule) q.at ≡ job_print c t fs p
   unfolding grade_answer job_print job_lines
-  refused_print rule at d =
-      let broken : grade_refusal c t fs p 6 65536 65536 ≡ some (rule, at) = rw (w, l) at (refused-some (fault_count fs) (grade_refusal c t fs p 6 work (length old)) rule at e d) in
+  refused_print q d =
+      let broken : grade_refusal c t fs p 6 65536 65536 ≡ some (number_of q.rule, q.at) = rw (w, l) at (refused-some (fault_count fs) (grade_refusal c t fs p 6 work (length old)) q e d) in
       rw broken
 
-  accepted : (n : ℕ) → r ≡ Done n → (grade_refusal c t fs p 6 work (length old) ≡ none) × (n ≡ fault_count fs)
+  accepted : (n : ℕ) → r ≡ Ok n → (grade_refusal c t fs p 6 work (length old) ≡ none) × (n ≡ fault_count fs)
   unfolding grade_answer
   accepted n d = done_none (fault_count fs) _ n e d
 
-  graded_print : area ≡ grade_area c t fs p 6 work old → (n : ℕ) → r ≡ Done n → job_lines none fs (take (16 * n) area) ≡ job_print c t fs p
+  graded_print : area ≡ grade_area c t fs p 6 work old → (n : ℕ) → r ≡ Ok n → job_lines none fs (take (16 * n) area) ≡ job_print c t fs p
   unfolding grade_area overwritten job_print job_lines
   graded_print a n d =
       let passed = (accepted n d).0 in

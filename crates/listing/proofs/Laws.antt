@@ -1,11 +1,10 @@
 -- Laws of the print.
-use mathlib.Core.Path.{◌≡◌, sym, ap}
-use mathlib.Core.List.{List, [], ◌∷◌, append-nil}
-use Prim.Native.Nat.{ℕ, ◌+◌, ◌≤◌, ◌<◌}
+use mathlib.Core.Path.{◌≡◌, refl, sym, ap, ◌∙◌}
+use mathlib.Core.List.{List, [], ◌++◌, append-nil}
+use Prim.Native.Nat.{ℕ, ◌+◌, ◌≤◌}
 use native.Mathlib.Omega.{arith}
-use native.Mathlib.Numerals.{add-one}
-use lib.ListN.{length, take, get_or}
-use lib.Seq.{take-suc, take_all}
+use lib.ListN.{length, take, length-append}
+use lib.Seq.{take_at, length-take-le}
 use Rattle.lists.specs.Scan.{gather}
 use Rattle.lists.proofs.Scan.{gather-turn}
 use Rattle.model.specs.Grade.{eight_fields}
@@ -18,16 +17,9 @@ use Rattle.listing.specs.Print.{fault_fields, FieldsOf, lines_below}
 pub put_same : {at r : ℕ} {a b old out : List ℕ} → a ≡ b → Put at r a old out → Put at r b old out
 put_same e p = rw e at p
 
--- ---- text
+-- nothing is appended yet
 pub put-none : (at : ℕ) (old : List ℕ) → Put at at [] old old
 put-none at old = record { end = omega arith; bytes = sym (append-nil (take at old)) }
-
-pub put_next : {from at r : ℕ} {old mid out : List ℕ} (text : List ℕ) (i : ℕ) → i < length text → Put from at (take i text) old mid → Put at r (get_or text i 0 ∷ []) mid out
-    → Put from r (take (i + 1) text) old out
-put_next text i h p q = rw (add-one, take-suc text i 0 h) (put_then p q)
-
-pub put_whole : {from r : ℕ} {old out : List ℕ} (text : List ℕ) (i : ℕ) → length text ≤ i → Put from r (take i text) old out → Put from r text old out
-put_whole text i h p = put_same (take_all i text h) p
 
 -- ---- the line of a fault
 pub fields-long : {fs records groups fields : List ℕ} {j : ℕ} → FieldsOf fs records groups j fields → length fields ≡ 12
@@ -46,6 +38,3 @@ lines_more fs records groups j p q = rw (gather-turn (λ j. number_line (fault_f
 pub lines_none : (fs records groups old : List ℕ) → Put 0 0 (lines_below fs records groups 0) old old
 unfolding lines_below gather
 lines_none fs records groups old = put-none 0 old
-
-pub lines-all : {r n m : ℕ} {old out : List ℕ} (fs records groups : List ℕ) → n ≡ m → Put 0 r (lines_below fs records groups n) old out → Put 0 r (lines_below fs records groups m) old out
-lines-all fs records groups e p = put_same (ap (lines_below fs records groups) e) p

@@ -8,14 +8,15 @@ ghost use Rattle.lists.specs.Scan.{tabulate};
 ghost use Rattle.model.specs.Inputs.{fault_count};
 ghost use Rattle.model.specs.Listing.{number_line, refused_line, too_long_line, with_verdict, total_line, job_lines};
 ghost use Rattle.decimals.specs.Put.{Put};
+ghost use Rattle.rules.specs.Check.{number_of};
 ghost use Rattle.listing.specs.Print.{fault_fields, FieldsOf, lines_below, Listable, PrintRoom, job_print, Printed};
 
-use job::Outcome;
+use rules::Refusal;
 
 // An area that is lent.
 pub type Area = [u8; 65536];
 
-// Which files have bytes behind those that were read.
+// Which files have bytes behind those that were read: each may, with others or alone, so that there are four flags.
 #[derive(Clone, Copy)]
 pub struct Longer {
     pub circuit: bool,
@@ -24,37 +25,24 @@ pub struct Longer {
     pub plan: bool,
 }
 
-// Bytes as they are.
-fn put_text(out: &mut [u8], from: usize, text: &[u8]) -> usize
-    requires { from + length text.now ≤ length out.old }
-    ensures { Put from result text.now out.old out.new }
-{
-    let mut at = from;
-    let mut i: usize = 0;
-    while i < text.len() {
-        at = decimals::put_byte(out, at, text[i]);
-        i += 1;
-    }
-    at
-}
-
 // `too long` and the name.
 fn put_too_long(out: &mut [u8], name: &[u8]) -> usize
     requires { length name.now + 10 ≤ length out.old }
     ensures { Put 0 result (too_long_line name.now) out.old out.new }
 {
-    let words = put_text(out, 0, b"too long ");
-    let end = put_text(out, words, name);
+    let words = decimals::put_text(out, 0, b"too long ");
+    let end = decimals::put_text(out, words, name);
     decimals::put_byte(out, end, b'\n')
 }
 
 // `refused NUMBER POSITION`.
-fn put_refused(out: &mut [u8], rule: u8, at: usize) -> usize
+fn put_refused(out: &mut [u8], refusal: Refusal) -> usize
     requires { 100 ≤ length out.old }
-    ensures { Put 0 result (refused_line rule at) out.old out.new }
+    ensures { Put 0 result (refused_line (number_of refusal.rule) refusal.at) out.old out.new }
 {
-    let words = put_text(out, 0, b"refused ");
-    decimals::put_line(out, words, &[basics::wide(rule), at])
+    let words = decimals::put_text(out, 0, b"refused ");
+    let number = usize::from(refusal.rule.number());
+    decimals::put_line(out, words, &[number, refusal.at])
 }
 
 // The numbers of fault j's line: line, pin, value, the record's first eight fields, group.
@@ -66,10 +54,10 @@ fn fields_of(faults: &[u8], records: &[u8], groups: &[u8], j: usize) -> [usize; 
     let record = 16 * j;
     [
         basics::word_at(faults, fault),
-        basics::wide(faults[fault + 2]),
-        basics::wide(faults[fault + 3]),
-        basics::wide(records[record]),
-        basics::wide(records[record + 1]),
+        usize::from(faults[fault + 2]),
+        usize::from(faults[fault + 3]),
+        usize::from(records[record]),
+        usize::from(records[record + 1]),
         basics::word_at(records, record + 2),
         basics::word_at(records, record + 4),
         basics::word_at(records, record + 6),
@@ -102,10 +90,8 @@ fn put_faults(faults: &[u8], records: &[u8], groups: &[u8], count: usize, out: &
     ensures { (Put 0 result (lines_below faults.now records.now groups.now count) out.old out.new) × (result ≤ 72 * count) }
 {
     let mut at: usize = 0;
-    let mut j: usize = 0;
-    while j < count {
+    for j in 0..count {
         at = put_fault(faults, records, groups, j, out, at);
-        j += 1;
     }
     at
 }
@@ -115,12 +101,8 @@ fn count_verdicts(records: &[u8]) -> [usize; 256]
     ensures { result ≡ tabulate (λ v. with_verdict records.now v) 0 256 }
 {
     let mut counts = [0usize; 256];
-    let count = records.len() / 16;
-    let mut n: usize = 0;
-    while n < count {
-        let verdict = basics::wide(records[16 * n]);
-        counts[verdict] += 1;
-        n += 1;
+    for n in 0..records.len() / 16 {
+        counts[usize::from(records[16 * n])] += 1;
     }
     counts
 }
@@ -131,7 +113,7 @@ fn put_total(records: &[u8], out: &mut [u8], at: usize) -> usize
     ensures { Put at result (total_line records.now) out.old out.new }
 {
     let counts = count_verdicts(records);
-    let words = put_text(out, at, b"total ");
+    let words = decimals::put_text(out, at, b"total ");
     decimals::put_line(out, words, &counts[1..8])
 }
 
@@ -141,9 +123,7 @@ fn put_graded(faults: &[u8], count: usize, res: &Area, groups: &mut Area, out: &
     requires { (count ≡ fault_count faults.now) × (count ≤ 4096) × (72 * count + 48 ≤ length out.old) }
     ensures { Put 0 result (job_lines none faults.now (take (16 * count) res.now)) out.old out.new }
 {
-    let area = &res[..];
-    let end = 16 * count;
-    let records = &area[..end];
+    let records = &res[..16 * count];
     let mut keys = [0usize; 4096];
     let mut firsts = [0usize; 4096];
     group::write_groups(records, &mut keys, &mut firsts, groups);
@@ -166,8 +146,8 @@ fn put_job(
     ensures { Put 0 result (job_print circuit.now test.now faults.now plan.now) out.old out.new }
 {
     match grade::grade(circuit, test, faults, plan, 6, work, res) {
-        Outcome::Refused { rule, at } => put_refused(out, rule, at),
-        Outcome::Done(count) => put_graded(faults, count, res, groups, out),
+        Ok(count) => put_graded(faults, count, res, groups, out),
+        Err(refusal) => put_refused(out, refusal),
     }
 }
 

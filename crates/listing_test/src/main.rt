@@ -14,43 +14,20 @@ const TEST: [u8; 3] = [0, 0, 0];
 
 const FAULTS: [u8; 16] = [0, 0, 0, 1, 0, 0, 0, 0, 3, 0, 0, 1, 3, 0, 1, 1];
 
-// Where the line that begins here ends, with its last byte.
-fn line_end(bytes: &[u8], from: usize) -> usize
-    requires { from ≤ length bytes.now }
-    ensures { (from ≤ result) × (result ≤ length bytes.now) }
-{
-    for i in from..bytes.len() {
-        if bytes[i] == b'\n' {
-            return i + 1;
-        }
-    }
-    bytes.len()
-}
-
-// Where the last line begins.
-fn last_line(bytes: &[u8]) -> usize
-    ensures { result ≤ length bytes.now }
-{
-    let mut i = bytes.len();
-    while 1 < i {
-        if bytes[i - 2] == b'\n' {
-            return i - 1;
-        }
-        i -= 1;
-    }
-    0
+fn is_end(byte: &u8) -> bool {
+    *byte == b'\n'
 }
 
 // A long print.
 fn print_ends(rt: &impl Print, bytes: &[u8]) {
-    let first = line_end(bytes, 0);
-    let second = line_end(bytes, first);
-    let last = last_line(bytes);
-    printing::text(rt, &bytes[0..second]);
-    printing::text(rt, &bytes[last..]);
-    printing::text(rt, b"checksum ");
-    printing::number(rt, printing::checksum(bytes));
-    printing::text(rt, b"\n");
+    for line in bytes.split_inclusive(is_end).take(2) {
+        printing::text(rt, line);
+    }
+    if let Some(line) = bytes.split_inclusive(is_end).last() {
+        printing::text(rt, line);
+    }
+    let checksum = printing::checksum(bytes);
+    let _ = println!(rt; "checksum {checksum}");
 }
 
 fn print_bytes(rt: &impl Print, bytes: &[u8]) {
@@ -62,20 +39,17 @@ fn print_bytes(rt: &impl Print, bytes: &[u8]) {
 }
 
 // The print of this size, under its title.
-fn print_titled(rt: &impl Print, title: &[u8], out: &[u8], size: usize)
+fn print_titled(rt: &impl Print, title: &str, out: &[u8], size: usize)
     requires { size ≤ length out.now }
 {
-    printing::text(rt, title);
-    printing::text(rt, b": ");
-    printing::number(rt, size);
-    printing::text(rt, b" bytes\n");
-    print_bytes(rt, &out[0..size]);
+    let _ = println!(rt; "{title}: {size} bytes");
+    print_bytes(rt, &out[..size]);
 }
 
 // What is made of four files.
 fn list(
     rt: &impl Print,
-    title: &[u8],
+    title: &str,
     circuit: &[u8],
     test: &[u8],
     faults: &[u8],
@@ -103,7 +77,7 @@ fn list(
 // The same, where each file ends with the bytes that were read.
 fn list_whole(
     rt: &impl Print,
-    title: &[u8],
+    title: &str,
     circuit: &[u8],
     test: &[u8],
     faults: &[u8],
@@ -118,10 +92,10 @@ fn list_whole(
     list(rt, title, circuit, test, faults, plan, longer);
 }
 
-// The same, of a circuit of so many lines.
+// The same, of a circuit of so many lines. Takes the array whole, so that nothing is to be shown of its length after it was written.
 fn list_lines(
     rt: &impl Print,
-    title: &[u8],
+    title: &str,
     circuit: &Circuit,
     lines: usize,
     test: &[u8],
@@ -130,9 +104,7 @@ fn list_lines(
 )
     requires { lines ≤ 6 }
 {
-    let records = &circuit[..];
-    let end = 12 * lines;
-    list_whole(rt, title, &records[0..end], test, faults, plan);
+    list_whole(rt, title, &circuit[..12 * lines], test, faults, plan);
 }
 
 // The record of line n: its kind, the number of its pins, 1 for an output, and what its pins 1 and 2 name.
@@ -157,13 +129,13 @@ fn specimen_a() -> Circuit {
 }
 
 // Specimen A with these files.
-fn list_a(rt: &impl Print, title: &[u8], test: &[u8], faults: &[u8], plan: &[u8]) {
+fn list_a(rt: &impl Print, title: &str, test: &[u8], faults: &[u8], plan: &[u8]) {
     let circuit = specimen_a();
     list_lines(rt, title, &circuit, 4, test, faults, plan);
 }
 
 // Files of which some are longer than what was read.
-fn list_longer(rt: &impl Print, title: &[u8], circuit: bool, test: bool, faults: bool, plan: bool) {
+fn list_longer(rt: &impl Print, title: &str, circuit: bool, test: bool, faults: bool, plan: bool) {
     let longer = Longer {
         circuit,
         test,
@@ -176,29 +148,28 @@ fn list_longer(rt: &impl Print, title: &[u8], circuit: bool, test: bool, faults:
 
 // The first file that is too long is named, in the order of the files.
 fn too_long(rt: &impl Print) {
-    list_longer(rt, b"circuit longer", true, false, false, false);
-    list_longer(rt, b"test longer", false, true, false, false);
-    list_longer(rt, b"faults longer", false, false, true, false);
-    list_longer(rt, b"plan longer", false, false, false, true);
-    list_longer(rt, b"circuit and plan longer", true, false, false, true);
-    list_longer(rt, b"test and faults longer", false, true, true, false);
-    list_longer(rt, b"faults and plan longer", false, false, true, true);
-    list_longer(rt, b"all longer", true, true, true, true);
+    list_longer(rt, "circuit longer", true, false, false, false);
+    list_longer(rt, "test longer", false, true, false, false);
+    list_longer(rt, "faults longer", false, false, true, false);
+    list_longer(rt, "plan longer", false, false, false, true);
+    list_longer(rt, "circuit and plan longer", true, false, false, true);
+    list_longer(rt, "test and faults longer", false, true, true, false);
+    list_longer(rt, "faults and plan longer", false, false, true, true);
+    list_longer(rt, "all longer", true, true, true, true);
 }
 
 // The area made of these four faults, again and again.
 fn fill(area: &mut Area, faults: &[u8; 16]) {
-    for i in 0..65536 {
-        area[i] = faults[i % 16];
+    for place in area.chunks_exact_mut(16) {
+        place.copy_from_slice(faults);
     }
 }
 
-// Specimen A, with the faults at the beginning of an area: so many bytes.
-fn list_faults(rt: &impl Print, title: &[u8], area: &Area, size: usize)
+// Specimen A, with the faults at the beginning of an area: so many bytes. Takes the array whole, for the same reason.
+fn list_faults(rt: &impl Print, title: &str, area: &Area, size: usize)
     requires { size ≤ 65536 }
 {
-    let faults = &area[..];
-    list_a(rt, title, &TEST, &faults[0..size], b"");
+    list_a(rt, title, &TEST, &area[..size], b"");
 }
 
 // A file of 65,536 bytes is not too long; here each breaks a rule.
@@ -209,37 +180,37 @@ fn full_files(rt: &impl Print) {
         &mut faults,
         &[0, 0, 0, 1, 0, 0, 0, 1, 0, 0, 0, 1, 0, 0, 0, 1],
     );
-    list_whole(rt, b"full circuit", &zeros, &TEST, &FAULTS, b"");
-    list_a(rt, b"full test", &zeros, &FAULTS, b"");
-    list_faults(rt, b"full faults", &faults, 65536);
-    list_a(rt, b"full plan", &TEST, &FAULTS, &zeros);
+    list_whole(rt, "full circuit", &zeros, &TEST, &FAULTS, b"");
+    list_a(rt, "full test", &zeros, &FAULTS, b"");
+    list_faults(rt, "full faults", &faults, 65536);
+    list_a(rt, "full plan", &TEST, &FAULTS, &zeros);
 }
 
 // The result area holds the records of 4,096 faults.
 fn many_faults(rt: &impl Print) {
     let mut faults = [0u8; 65536];
     fill(&mut faults, &FAULTS);
-    list_faults(rt, b"no fault", &faults, 0);
-    list_faults(rt, b"4095 faults", &faults, 16380);
-    list_faults(rt, b"4096 faults", &faults, 16384);
-    list_faults(rt, b"4097 faults", &faults, 16388);
+    list_faults(rt, "no fault", &faults, 0);
+    list_faults(rt, "4095 faults", &faults, 16380);
+    list_faults(rt, "4096 faults", &faults, 16384);
+    list_faults(rt, "4097 faults", &faults, 16388);
 }
 
 // Refusals that name a record or a byte.
 fn refused_places(rt: &impl Print) {
     let mut circuit = specimen_a();
     put_line(&mut circuit, 3, 10, 2, 0, 0, 2);
-    list_lines(rt, b"kind of record 3", &circuit, 4, &TEST, &FAULTS, b"");
+    list_lines(rt, "kind of record 3", &circuit, 4, &TEST, &FAULTS, b"");
     list_a(
         rt,
-        b"byte 12 of the test",
+        "byte 12 of the test",
         &[0, 0, 0, 0, 0, 0, 0, 0, 0, 0, 0, 0, 2],
         &FAULTS,
         b"",
     );
     list_a(
         rt,
-        b"line of fault 2",
+        "line of fault 2",
         &TEST,
         &[0, 0, 0, 1, 0, 0, 0, 0, 4, 0, 0, 1],
         b"",
@@ -256,7 +227,7 @@ fn long_tests(rt: &impl Print) {
     put_line(&mut circuit, 5, 2, 1, 1, 0, 0);
     list_lines(
         rt,
-        b"862 time units",
+        "862 time units",
         &circuit,
         6,
         &[0; 862],
@@ -265,7 +236,7 @@ fn long_tests(rt: &impl Print) {
     );
     list_lines(
         rt,
-        b"863 time units",
+        "863 time units",
         &circuit,
         6,
         &[0; 863],
@@ -281,7 +252,7 @@ fn with_plan(rt: &impl Print) {
     put_line(&mut circuit, 2, 4, 2, 0, 0, 1);
     list_lines(
         rt,
-        b"specimen B",
+        "specimen B",
         &circuit,
         3,
         &[0, 0],
@@ -291,9 +262,9 @@ fn with_plan(rt: &impl Print) {
 }
 
 fn main(rt: HostRuntime) {
-    list_a(&rt, b"specimen A", &TEST, &FAULTS, b"");
+    list_a(&rt, "specimen A", &TEST, &FAULTS, b"");
     with_plan(&rt);
-    list_whole(&rt, b"no files", b"", b"", b"", b"");
+    list_whole(&rt, "no files", b"", b"", b"", b"");
     too_long(&rt);
     full_files(&rt);
     refused_places(&rt);

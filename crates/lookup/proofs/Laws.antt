@@ -1,16 +1,16 @@
 -- The tables when nothing is held, and when one line more is; what a row tells of its line.
 use mathlib.Core.Path.{◌≡◌, sym, ap, ◌∙◌}
 use mathlib.Core.List.{List}
-use Prim.Native.Nat.{ℕ, ◌+◌, ◌*◌, ◌-◌, ◌≤◌, ◌<◌}
+use Prim.Native.Nat.{ℕ, ◌+◌, ◌*◌, ◌≤◌, ◌<◌}
 use native.Mathlib.Nat.{ne_of_lt}
 use native.Mathlib.Omega.{arith}
 use lib.Dec.{eqb}
-use lib.ListN.{get_or, length, set, take, drop, replicate, length-set, length-replicate, get_or-replicate}
+use lib.ListN.{get_or, length, set, replicate, length-set, length-replicate, get_or-replicate}
 use lib.Seq.{get_or-set_same, get_or-set_other}
 use borrow.Author.Count.{below_none, below_more}
 use borrow.Author.Tests.{eq-eqb, ne_eqb}
 use Rattle.lists.proofs.Tests.{by-eq}
-use Rattle.bench_text.specs.Text.{bytes_of}
+use Rattle.bench_text.specs.Text.{Part, bytes_of}
 use Rattle.bench_text.specs.Bench.{name_at}
 use Rattle.parts.specs.Hash.{hash_of}
 use Rattle.lookup.specs.Lookup.{last, row_part, RowWithin, line_hash, Held}
@@ -71,18 +71,18 @@ module _ (names : List ℕ) (n at size link : ℕ) where
     get_or-set_same with_part (3 * n + 2) link 0 (rw (length-set, length-set) room),
   )
 
--- the hash of a line's name, of the part that code lends for it
-pub part_hash : (text : List ℕ) (n at size : ℕ) → at ≡ (name_at text n).at → size ≡ (name_at text n).size → hash_of (take (at + size - at) (drop at text)) ≡ line_hash text n
-unfolding line_hash bytes_of
-part_hash text n at size a s = let whole : at + size - at ≡ size = omega arith in rw (whole, a, s)
+-- the hash of a line's name, of the part that tells it
+pub part_hash : (text : List ℕ) (n : ℕ) (p : Part) → p ≡ name_at text n → hash_of (bytes_of text p) ≡ line_hash text n
+unfolding line_hash
+part_hash text n p e = ap (λ p. hash_of (bytes_of text p)) e
 
-module _ {text names heads : List ℕ} {n at size hash : ℕ} (held : Held text names heads n) (more : n < 4096) (a : at ≡ (name_at text n).at) (s : size ≡ (name_at text n).size)
-    (w : at + size ≤ length text) (own : hash ≡ line_hash text n) (low : hash < 4096) where
+module _ {text names heads : List ℕ} {n hash : ℕ} {p : Part} (held : Held text names heads n) (more : n < 4096) (e : p ≡ name_at text n)
+    (w : p.at + p.size ≤ length text) (own : hash ≡ line_hash text n) (low : hash < 4096) where
   abbrev heading : ℕ
   heading = get_or heads hash 0
 
-  kept : (i : ℕ) → i < 3 * n → get_or (with_row names n at size heading) i 0 ≡ get_or names i 0
-  kept = row_kept names n at size heading
+  kept : (i : ℕ) → i < 3 * n → get_or (with_row names n p.at p.size heading) i 0 ≡ get_or names i 0
+  kept = row_kept names n p.at p.size heading
 
   -- the highest line of each hash
   top : (b : ℕ) → b < 4096 → get_or (set heads hash (n + 1)) b 0 ≡ last (λ m. eqb (line_hash text m) b) (n + 1)
@@ -90,15 +90,15 @@ module _ {text names heads : List ℕ} {n at size hash : ℕ} (held : Held text 
       (λ e. rw (e, get_or-set_same heads hash (n + 1) 0 (omega (arith, held.slots))) (sym (last-here _ n (eq-eqb _ _ (sym own)))))
       (λ other. get_or-set_other heads hash b (n + 1) 0 other ∙ held.tops b h ∙ sym (last-before _ n (ne_eqb _ _ (λ e. other (sym e ∙ sym own)))))
 
-  pub held_more : Held text (with_row names n at size heading) (set heads hash (n + 1)) (n + 1)
+  pub held_more : Held text (with_row names n p.at p.size heading) (set heads hash (n + 1)) (n + 1)
   held_more =
-      let written = row_written names n at size heading (omega (arith, held.room)) in record {
+      let written = row_written names n p.at p.size heading (omega (arith, held.room)) in record {
         few = omega arith;
         room = rw (length-set, length-set, length-set) held.room;
         slots = rw length-set held.slots;
-        starts = below_more _ n (λ m h. kept (3 * m) (omega arith) ∙ held.starts m h) (written.0 ∙ a);
-        sizes = below_more _ n (λ m h. kept (3 * m + 1) (omega arith) ∙ held.sizes m h) (written.1 ∙ s);
-        within = below_more _ n held.within (omega arith);
+        starts = below_more _ n (λ m h. kept (3 * m) (omega arith) ∙ held.starts m h) (written.0 ∙ ap (λ (p : Part). p.at) e);
+        sizes = below_more _ n (λ m h. kept (3 * m + 1) (omega arith) ∙ held.sizes m h) (written.1 ∙ ap (λ (p : Part). p.size) e);
+        within = below_more _ n held.within (rw (← e) w);
         links = below_more _ n (λ m h. kept (3 * m + 2) (omega arith) ∙ held.links m h)
             (written.2 ∙ held.tops hash low ∙ ap (λ b. last (λ m. eqb (line_hash text m) b) n) own);
         tops = top;

@@ -5,12 +5,13 @@ use Prim.Native.Nat.{ℕ, ◌*◌, ◌≤◌, ◌<◌}
 use native.Mathlib.Omega.{arith}
 use lib.ListN.{length, take}
 use lib.Seq.{length-take-le}
+use Rattle.std.specs.Prelude.{Result}
 use Rattle.model.specs.Refusals.{done}
 use Rattle.bench_text.specs.Text.{bytes_of}
 use Rattle.bench_text.specs.Bench.{line_count, name_at, bench_records}
 use Rattle.bench_text.proofs.Sentences.{length-bytes_of, line-name-ends, line-name-proper}
 use Rattle.bench_text.proofs.Records.{length-records}
-use Rattle.job.specs.declared.Outcome.{Outcome}
+use Rattle.rules.specs.declared.Refusal.{Refusal}
 use Rattle.job.specs.Job.{answer_of}
 use Rattle.lookup.specs.Lookup.{row_part}
 use Rattle.lookup.proofs.Laws.{held-row}
@@ -29,7 +30,7 @@ line-name-short text n h = omega (arith, (line-name-proper text n h).most, lengt
 records-all : (text records : List ℕ) (n : ℕ) → 12 * n ≤ length records → take (12 * n) records ≡ bench_records text → line_count text ≡ n
 records-all text records n room e = omega (arith, length-take-le (12 * n) records room, ap length e, length-records text)
 
-pub accepted-named : {text names heads records : List ℕ} {r : Outcome} {n : ℕ} → Inspected text names heads records r → answer_of r ≡ done n → Named text names n
+pub accepted-named : {text names heads records : List ℕ} {r : Result ℕ Refusal} {n : ℕ} → Inspected text names heads records r → answer_of r ≡ done n → Named text names n
 accepted-named {text} {names} {heads} {records} {r} {n} found e =
     let held = found.held n e in
     let lines : line_count text ≡ n = records-all text records n (found.written n e).0 (found.written n e).1 in

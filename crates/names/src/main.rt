@@ -6,22 +6,12 @@ ghost use Rattle.std.specs.Prelude.{◌≡◌, ◌+◌, ◌*◌, ◌<◌, ◌≤
 ghost use Rattle.printing.specs.Prefix.{IsPrefixLen};
 ghost use Rattle.names.specs.Named.{Named};
 
-use job::Outcome;
+use bench_file::LONGEST;
 use lookup::{HEADS, NAMES};
 use read_bench::RECORDS;
 
 // Room for 4,096 lines of 38 bytes: a number of four digits, a space, a name of 32 bytes and byte 10.
 const PRINT: usize = 155648;
-
-// A name, behind what stands there; where the next byte goes.
-fn put_name(out: &mut [u8], at: usize, name: &[u8]) -> usize
-    requires { at + length name.now ≤ length out.old }
-    ensures { result ≡ at + length name.now }
-{
-    let end = at + name.len();
-    out[at..end].copy_from_slice(name);
-    end
-}
 
 // Line n with its name, behind the lines that stand there; where the next begins.
 fn put_line(out: &mut [u8], at: usize, n: usize, name: &[u8]) -> usize
@@ -29,7 +19,7 @@ fn put_line(out: &mut [u8], at: usize, n: usize, name: &[u8]) -> usize
     ensures { result ≤ at + 38 }
 {
     let begin = decimals::put_field(out, at, n, b' ');
-    let end = put_name(out, begin, name);
+    let end = decimals::put_text(out, begin, name);
     decimals::put_byte(out, end, b'\n')
 }
 
@@ -50,7 +40,7 @@ fn write(rt: &HostRuntime, text: &[u8], names: &[usize; NAMES], count: usize)
 {
     let mut out = [0u8; PRINT];
     let size = put_names(&mut out, text, names, count);
-    printing::deliver(rt, &out[..size], b"names: cannot write the names\n");
+    printing::deliver(rt, &out[..size], "names: cannot write the names");
 }
 
 // The names of the text's lines, or why there are none.
@@ -59,22 +49,20 @@ fn list(rt: &HostRuntime, text: &[u8]) {
     let mut heads = [0usize; HEADS];
     let mut records = [0u8; RECORDS];
     match read_bench::inspect(text, &mut names, &mut heads, &mut records) {
-        Outcome::Refused { rule, at } => bench_file::tell_refused(rt, b"names", rule, at),
-        Outcome::Done(count) => write(rt, text, &names, count),
+        Ok(count) => write(rt, text, &names, count),
+        Err(refusal) => bench_file::tell_refused(rt, "names", refusal),
     }
 }
 
 fn main(rt: HostRuntime) {
-    let mut area = bench_file::area();
-    let text = bench_file::read_text(
+    let mut area: [u8; LONGEST] = printing::zeros();
+    let read = bench_file::read_text(
         &rt,
-        b"names",
-        b"the number and the name of each line of a circuit",
+        "names",
+        "the number and the name of each line of a circuit",
         &mut area,
     );
-    if !text.whole {
-        return;
+    if let Some(size) = read {
+        list(&rt, &area[..size]);
     }
-    let size = text.size;
-    list(&rt, &area[..size]);
 }

@@ -1,8 +1,5 @@
 -- A number as an argument of a program gives it: decimal digits, or 0x and hexadecimal digits.
-use Rattle.std.specs.Prelude.{ℕ, ◌+◌, ◌*◌, ◌-◌, min, Bool, cond, ◌&&◌, List, [], ◌∷◌, get_or, length, drop, eqb, leb, ltb}
-use Rattle.std.proofs.Math.Option.{Option, none, some}
-use Rattle.numerals.specs.declared.Numeral.{Numeral}
-use Rattle.numerals.specs.declared.Numeral.TheVariants.{Wrong, Number}
+use Rattle.std.specs.Prelude.{ℕ, ◌+◌, ◌*◌, ◌-◌, min, Option, None, Some, Bool, cond, ◌&&◌, List, [], ◌∷◌, get_or, length, drop, eqb, leb, ltb}
 
 -- b is one of the bytes from a to z
 unfoldable pub between : ℕ → ℕ → ℕ → Bool
@@ -14,8 +11,8 @@ digit_of b = cond (between 48 57 b) (b - 48) (cond (between 97 102 b) (b - 87) (
 
 -- the number that v becomes with these digits behind its own, or none where one of them is no digit of the base
 unfoldable pub with_digits : ℕ → ℕ → List ℕ → Option ℕ
-with_digits base v [] = some v
-with_digits base v (b ∷ bs) = cond (ltb (digit_of b) base) (with_digits base (base * v + digit_of b) bs) none
+with_digits base v [] = Some v
+with_digits base v (b ∷ bs) = cond (ltb (digit_of b) base) (with_digits base (base * v + digit_of b) bs) None
 
 -- 0x and something behind it
 unfoldable pub is_hex : List ℕ → Bool
@@ -23,14 +20,9 @@ is_hex text = ltb 2 (length text) && eqb (get_or text 0 0) 48 && eqb (get_or tex
 
 -- at least one byte, and all of them digits, or but for 0x
 unfoldable pub numeral : List ℕ → Option ℕ
-numeral text = cond (eqb (length text) 0) none (cond (is_hex text) (with_digits 16 0 (drop 2 text)) (with_digits 10 0 text))
+numeral text = cond (eqb (length text) 0) None (cond (is_hex text) (with_digits 16 0 (drop 2 text)) (with_digits 10 0 text))
 
 -- 65,536 for every number above it: a text may tell one that no word holds
 unfoldable pub capped : Option ℕ → Option ℕ
-capped none = none
-capped (some n) = some (min n 65536)
-
--- what each case stands for
-unfoldable pub number_of : Numeral → Option ℕ
-number_of Wrong = none
-number_of (Number n) = some n
+capped None = None
+capped (Some n) = Some (min n 65536)

@@ -1,84 +1,33 @@
 // A number as an argument of a program gives it.
 #![tactic(auto)]
 
-ghost use Rattle.std.specs.Prelude.{◌≡◌, ◌≤◌, min, length, drop};
-ghost use Rattle.numerals.specs.Numeral.{between, digit_of, with_digits, is_hex, numeral, capped, number_of};
+ghost use Rattle.std.specs.Prelude.{◌≡◌, ◌≤◌};
+ghost use Rattle.numerals.specs.Numeral.{with_digits, numeral, capped};
 
-// A number up to 65,536, which stands for every higher one too; or that the text is none.
-#[derive(Clone, Copy)]
-pub enum Numeral {
-    Wrong,
-    Number(usize),
+// The highest number that is told; it stands for every higher one too.
+const HIGHEST: usize = 65536;
+
+// The number that these digits make, or none where one of them is no digit of the base.
+fn digits(text: &[u8], base: u32) -> Option<usize>
+    requires { (2 ≤ base) × (base ≤ 16) }
+    ensures { result ≡ capped (with_digits base 0 text.now) }
+{
+    let mut v = 0;
+    for b in text {
+        let d = char::from(*b).to_digit(base)?;
+        let n = base as usize * v + d as usize;
+        v = n.min(HIGHEST);
+    }
+    Some(v)
 }
 
-// Whether b is one of the bytes from a to z.
-fn between(a: u8, z: u8, b: u8) -> bool
-    ensures { result ≡ between a z b }
+// The number of a text, decimal digits or 0x and hexadecimal digits; or none where the text is no number.
+pub fn number_in(text: &[u8]) -> Option<usize>
+    ensures { result ≡ capped (numeral text.now) }
 {
-    basics::both(a <= b, b <= z)
-}
-
-// A digit's value, or 16.
-fn digit_of(b: u8) -> usize
-    ensures { (result ≡ digit_of b) × (result ≤ 16) }
-{
-    let n = basics::wide(b);
-    if between(b'0', b'9', b) {
-        return n - 48;
+    match text {
+        [] => None,
+        [b'0', b'x', _, ..] => digits(&text[2..], 16),
+        _ => digits(text, 10),
     }
-    if between(b'a', b'f', b) {
-        return n - 87;
-    }
-    if between(b'A', b'F', b) {
-        return n - 55;
-    }
-    16
-}
-
-// The number, but for high ones.
-fn cap(n: usize) -> usize
-    ensures { result ≡ min n 65536 }
-{
-    if 65536 < n { 65536 } else { n }
-}
-
-// The number that the digits from this place on make.
-fn digits(text: &[u8], from: usize, base: usize) -> Numeral
-    requires { (from ≤ length text.now) × (1 ≤ base) × (base ≤ 16) }
-    ensures { number_of result ≡ capped (with_digits base 0 (drop from text.now)) }
-{
-    let mut v: usize = 0;
-    let mut i = from;
-    while i < text.len() {
-        let d = digit_of(text[i]);
-        if base <= d {
-            return Numeral::Wrong;
-        }
-        v = cap(base * v + d);
-        i += 1;
-    }
-    Numeral::Number(v)
-}
-
-// Whether it begins with 0x and goes on.
-fn is_hex(text: &[u8]) -> bool
-    ensures { result ≡ is_hex text.now }
-{
-    if text.len() <= 2 {
-        return false;
-    }
-    basics::both(text[0] == b'0', text[1] == b'x')
-}
-
-// The number of a text: decimal digits, or 0x and hexadecimal digits.
-pub fn number_in(text: &[u8]) -> Numeral
-    ensures { number_of result ≡ capped (numeral text.now) }
-{
-    if text.len() == 0 {
-        return Numeral::Wrong;
-    }
-    if is_hex(text) {
-        return digits(text, 2, 16);
-    }
-    digits(text, 0, 10)
 }

@@ -1,2 +1,3 @@
 -- What the contracts say.
 pub mod Hash
+pub mod Place

@@ -1,17 +1,18 @@
 -- What one place, and one unit, adds.
 use mathlib.Core.Path.{◌≡◌, refl, sym, ap, ◌∙◌}
 use Prim.Native.Nat.{ℕ, zero, suc, ◌+◌, ◌*◌, ◌-◌, ◌≤◌, ◌<◌}
-use mathlib.Core.Bool.{cond, ◌&&◌}
+use mathlib.Core.Bool.{Bool, true, false, cond, ◌&&◌}
 use mathlib.Core.List.{List, [], ◌∷◌}
 use lib.ListN.{get_or, length, set, take, drop}
-use lib.Seq.{get_or-set_same, get_or-set_other, take_all}
+use lib.Seq.{get_or-set_same, get_or-set_other}
 use lib.Dec.{eqb}
+use mir.Val.{bool_byte}
 use native.Mathlib.Omega.{arith}
 use native.Mathlib.Nat.{mul-suc}
 use Rattle.lists.specs.Field.{row_of}
 use Rattle.lists.proofs.Tests.{by-eq}
 use Rattle.lists.proofs.Field.{part-row, length-row}
-use Rattle.model.specs.Inputs.{O, L, Fault}
+use Rattle.model.specs.Inputs.{L, Fault}
 use Rattle.model.specs.Values.{X, is_specified}
 use Rattle.model.specs.Simulation.{plain_outputs, free_outputs}
 use Rattle.model.specs.Expansion.{count_open, nout}
@@ -19,6 +20,15 @@ use Rattle.model.proofs.Pending.{nout-step, nout-end}
 use Rattle.pending.specs.Pending.{Responses}
 
 -- ---- the loop over the places
+-- a test's number
+pub test-number : (b : Bool) → bool_byte b ≡ cond b 1 0
+test-number true = refl
+test-number false = refl
+
+pub number-most : (b : Bool) → bool_byte b ≤ 1
+number-most true = omega arith
+number-most false = omega arith
+
 pub open_none : (free faulty : List ℕ) → 0 ≡ count_open (take 0 free) (take 0 faulty)
 unfolding count_open
 open_none free faulty = refl
@@ -35,10 +45,6 @@ open_more (a ∷ free) (b ∷ faulty) (suc places) opened here h k e p =
     let tail : count_open (take places free) (take places faulty) + here ≡ count_open (take (places + 1) free) (take (places + 1) faulty) =
     open_more free faulty places _ here (omega arith) (omega arith) e refl in
     rw next (omega (arith, p, tail))
-
-pub open_all : (free faulty : List ℕ) (places opened : ℕ) → length free ≤ places → length faulty ≤ places → opened ≡ count_open (take places free) (take places faulty)
-    → opened ≡ count_open free faulty
-open_all free faulty places opened h k p = rw (take_all places free h, take_all places faulty k) at p
 
 -- ---- the loop over the units
 -- the row of unit u, as it is lent: it ends where the next begins
@@ -77,9 +83,6 @@ module _ {c t : List ℕ} {f : Fault} (units outputs : ℕ) (free faulty : List 
             (λ e. rw e (get_or-set_same table u (later + added) 0 room ∙ all))
             (λ e. get_or-set_other table u v (later + added) 0 e ∙ done.at v (omega arith) q);
       }
-
-  pub all-places : (compared : ℕ) → compared ≡ units * outputs → compared ≡ L c t * O c
-  all-places compared e = e ∙ rw (given.all, given.wide)
 
 -- ---- Nout never grows from a unit to the next
 pub nout-later : (c t : List ℕ) (f : Fault) (u k : ℕ) → u + k < L c t → nout c t f u ≡ 0 → nout c t f (u + k) ≡ 0

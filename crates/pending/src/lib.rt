@@ -22,14 +22,14 @@ fn compare_rows(free: &[u8], faulty: &[u8]) -> Comparison
 {
     let mut places: usize = 0;
     let mut open_places: u16 = 0;
-    while places < free.len() {
-        let is_open = basics::both(free[places] <= 1, faulty[places] == 2);
-        open_places += basics::one_if(is_open) as u16;
+    for n in 0..free.len() {
+        let is_open = (free[n] <= 1) & (faulty[n] == 2);
+        open_places += u16::from(is_open);
         places += 1;
     }
     Comparison {
         places,
-        open_places: basics::wide16(open_places),
+        open_places: usize::from(open_places),
     }
 }
 
@@ -47,11 +47,9 @@ pub fn outstanding(
 {
     let mut compared: usize = 0;
     let mut later: usize = 0;
-    let mut u = units;
     let mut to = units * outputs;
     table[units] = 0;
-    while u > 0 {
-        u -= 1;
+    for u in (0..units).rev() {
         let at = outputs * u;
         let here = compare_rows(&free[at..to], &faulty[at..to]);
         compared += here.places;
@@ -68,12 +66,10 @@ pub fn open_units(units: usize, table: &[usize]) -> usize
     requires { (units ≤ 1024) × (units < length table.now) }
     ensures { (c t : List ℕ) (f : Fault) → units ≡ L c t → ((u : ℕ) → u ≤ L c t → get_or table.now u 0 ≡ nout c t f u) → OpenUnits c t f result }
 {
-    let mut u: usize = 0;
-    while u < units {
+    for u in 0..units {
         if table[u] == 0 {
             return u;
         }
-        u += 1;
     }
     units
 }

@@ -5,13 +5,15 @@
 ghost use Rattle.std.specs.Prelude.{◌≡◌, ◌+◌, ◌*◌, ◌<◌, ◌≤◌, length};
 ghost use Rattle.model.specs.Inputs.{F, L};
 ghost use Rattle.best.specs.Best.{AtMost, most_nout, most_merit};
-ghost use Rattle.run.specs.Run.{Runnable};
+ghost use Rattle.run.specs.Run.{Runs};
 ghost use Rattle.pick.specs.Pick.{reach_of, Touched, PickRoom, AllPicked, ChosenFrom};
 
-use job::Job;
+use run::Setup;
 use stages::{Times, Trials};
+use unit::GivenFaults;
 
 // How many units may have a pair that is taken: the first, and those behind a unit with Nout above 0.
+#[tactic(auto, unfolding(crate::specs::Pick::reach_of))]
 fn reached(units: usize, left: usize) -> usize
     ensures { result ≡ reach_of units left }
 {
@@ -45,9 +47,7 @@ fn touched(count: usize, u: usize, i: usize) -> Span
 
 // Up to k picks, each written as a plan record: how many there are. The entries of `span` are those that a pick is to weigh first.
 fn pick_pairs(
-    c: &[u8],
-    job: Job,
-    t: &[u8],
+    setup: &Setup,
     free: &[u8],
     states: &[u8],
     list: &[u8],
@@ -55,90 +55,75 @@ fn pick_pairs(
     reach: usize,
     k: usize,
     merits: &[usize],
-    pins: &[u16],
-    flops: &[usize],
-    outs: &[usize],
-    hits: &[u8],
-    masks: &[u64],
+    given: &GivenFaults,
     feed: &mut [u64],
     words: &mut [u64],
     state: &mut [u64],
-    units: &mut Trials,
-    bits: &mut Trials,
+    pairs: &mut Trials,
     times: &mut Times,
     extras: &mut [u8],
     table: &mut [u8],
     res: &mut [u8],
 ) -> usize
-    requires { (Runnable c.now t.now job pins.now flops.now outs.now hits.now masks.now feed.old words.old state.old) × (reach ≤ L c.now t.now) × (k ≤ 12)
-        × (4 * (F c.now * reach) ≤ length table.old) × (4 * k ≤ length res.old) × (AtMost most_merit reach merits.now)
-        × (PickRoom c.now t.now free.now states.now list.now merits.now extras.old) }
-    ensures { AllPicked c.now t.now free.now states.now list.now hits.now
-        masks.now merits.now left reach k res.old res.new result }
+    requires { (Runs setup.now given.now.hits.now given.now.masks.now feed.old words.old state.old) × (reach ≤ L setup.now.circuit.now setup.now.test.now) × (k ≤ 12)
+        × (4 * (F setup.now.circuit.now * reach) ≤ length table.old) × (4 * k ≤ length res.old) × (AtMost most_merit reach merits.now)
+        × (PickRoom setup.now.circuit.now setup.now.test.now free.now states.now list.now merits.now extras.old) }
+    ensures { AllPicked setup.now.circuit.now setup.now.test.now free.now states.now list.now given.now.hits.now
+        given.now.masks.now merits.now left reach k res.old res.new result }
 {
-    let mut m: usize = 0;
     let mut span = Span {
         from: 0,
-        to: job.flops * reach,
+        to: setup.job.flops * reach,
     };
-    while m < k {
+    for m in 0..k {
         weigh::weigh(
-            c, job, t, free, states, list, span.from, span.to, m, pins, flops, outs, hits, masks,
-            feed, words, state, units, bits, times, extras, table,
+            setup, free, states, list, span.from, span.to, m, given, feed, words, state, pairs,
+            times, extras, table,
         );
-        let best = best::best_pair(reach, job.flops, merits, table);
-        if best.score == 0 {
+        let Some(best) = best::best_pair(reach, setup.job.flops, merits, table) else {
             return m;
-        }
+        };
         take::take_pair(
-            c, job, t, free, states, list, left, best.unit, best.bit, k, m, pins, flops, outs,
-            hits, masks, feed, words, state, units, bits, times, extras,
+            setup, free, states, list, left, best.unit, best.bit, k, m, given, feed, words, state,
+            times, extras,
         );
         let at = 4 * m;
         record::put_two(&mut res[at..], best.unit, best.bit);
-        span = touched(job.flops, best.unit, best.bit);
-        m += 1;
+        span = touched(setup.job.flops, best.unit, best.bit);
     }
-    m
+    k
 }
 
 // The picks of a fault that stages 1 to 4 leave open. The work area holds the table of entries.
 pub fn choose_pairs(
-    c: &[u8],
-    job: Job,
-    t: &[u8],
+    setup: &Setup,
     free: &[u8],
     states: &[u8],
     list: &[u8],
     nout: &[usize],
     left: usize,
     k: usize,
-    pins: &[u16],
-    flops: &[usize],
-    outs: &[usize],
-    hits: &[u8],
-    masks: &[u64],
+    given: &GivenFaults,
     feed: &mut [u64],
     words: &mut [u64],
     state: &mut [u64],
-    units: &mut Trials,
-    bits: &mut Trials,
+    pairs: &mut Trials,
     merits: &mut [usize],
     times: &mut Times,
     extras: &mut [u8],
     work: &mut [u8],
     res: &mut [u8],
 ) -> usize
-    requires { (Runnable c.now t.now job pins.now flops.now outs.now hits.now masks.now feed.old words.old state.old) × (k ≤ 12) × (4 * (L c.now t.now * F c.now) ≤ length work.old)
-        × (4 * k ≤ length res.old) × (AtMost most_nout (L c.now t.now) nout.now) × (L c.now t.now ≤ length nout.now)
-        × (PickRoom c.now t.now free.now states.now list.now merits.old extras.old) }
-    ensures { ChosenFrom c.now t.now free.now states.now list.now hits.now masks.now nout.now left k
+    requires { (Runs setup.now given.now.hits.now given.now.masks.now feed.old words.old state.old) × (k ≤ 12) × (4 * (L setup.now.circuit.now setup.now.test.now * F setup.now.circuit.now) ≤ length work.old)
+        × (4 * k ≤ length res.old) × (AtMost most_nout (L setup.now.circuit.now setup.now.test.now) nout.now) × (L setup.now.circuit.now setup.now.test.now ≤ length nout.now)
+        × (PickRoom setup.now.circuit.now setup.now.test.now free.now states.now list.now merits.old extras.old) }
+    ensures { ChosenFrom setup.now.circuit.now setup.now.test.now free.now states.now list.now given.now.hits.now given.now.masks.now nout.now left k
         res.old res.new result }
 {
-    let reach = reached(job.units, left);
-    best::set_merits(reach, job.flops, states, nout, merits);
+    let reach = reached(setup.job.units, left);
+    best::set_merits(reach, setup.job.flops, states, nout, merits);
     pick_pairs(
-        c, job, t, free, states, list, left, reach, k, merits, pins, flops, outs, hits, masks,
-        feed, words, state, units, bits, times, extras, work, res,
+        setup, free, states, list, left, reach, k, merits, given, feed, words, state, pairs, times,
+        extras, work, res,
     )
 }

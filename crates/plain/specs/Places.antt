@@ -1,5 +1,5 @@
 -- The first opposing place of each lane, in two lists: times and lines.
-use Rattle.std.specs.Prelude.{ℕ, ◌%◌, ◌<◌, ◌≡◌, false, cond, List, get_or, eqb, ltb}
+use Rattle.std.specs.Prelude.{ℕ, ◌<◌, ◌≡◌, false, cond, List, get_or, ltb}
 use Rattle.std.proofs.Math.Option.{none, some}
 use Rattle.lists.specs.Scan.{first_pair}
 use Rattle.lists.specs.Field.{Rows}
@@ -14,11 +14,6 @@ use Rattle.plain.specs.declared.Firsts.{Firsts}
 -- the place noted for a lane: a time unit and a line
 abbrev pub place_at : List ℕ → List ℕ → ℕ → ℕ × ℕ
 place_at times lines lane = (get_or times lane 0, get_or lines lane 0)
-
--- a place is noted for lane t if the number's lowest bit is set; all other lanes keep theirs
-pub record NotedIf (rest t u line : ℕ) (times lines times' lines' : List ℕ) : Type 0 where
-  pub here : place_at times' lines' t ≡ cond (eqb (rest % 2) 1) (u, line) (place_at times lines t)
-  pub others : (lane : ℕ) → (lane ≡ t → ⊥) → place_at times' lines' lane ≡ place_at times lines lane
 
 -- a place is noted for the new lanes; all others keep theirs
 pub record Noted (new u line : ℕ) (times lines times' lines' : List ℕ) : Type 0 where

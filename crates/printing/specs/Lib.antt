@@ -1,2 +1,3 @@
 pub mod Only
 pub mod Prefix
+pub mod Read

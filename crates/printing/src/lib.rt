@@ -6,12 +6,14 @@
 ghost use Rattle.std.specs.Prelude.{◌≡◌, true, ◌+◌, ◌<◌, ◌≤◌, length, IfOk};
 ghost use Rattle.printing.specs.Only.{Only};
 ghost use Rattle.printing.specs.Prefix.{IsPrefixLen};
+ghost use Rattle.printing.specs.Read.{size_of};
 
+use rules::Refusal;
 use std::env::FillError;
 use std::fmt::InlineText;
 use std::io::{ErrorKind, Read};
 use std::rt::{Env, Files};
-use std::{fs, io};
+use std::{fmt, fs, io};
 
 // The byte that a test program makes its areas of before a call.
 pub const BLANK: u8 = 165;
@@ -23,153 +25,121 @@ pub fn zeros<const N: usize>() -> [u8; N]
     [0; N]
 }
 
-// Digits that are written at once.
-type Digits = [u8; 4096];
-
-// Bytes as they are.
-pub fn text(rt: &impl Print, bytes: &[u8]) {
-    let _ = rt.write_all(bytes);
+// Bytes as they are: on standard output, or on standard error where that is what is lent.
+pub fn text(out: &impl Print, bytes: &[u8]) {
+    let _ = out.write_all(bytes);
 }
 
-// Bytes that are all a program has to write; where they cannot be written, standard error says so.
-pub fn deliver(rt: &HostRuntime, bytes: &[u8], failure: &[u8]) {
-    let done = rt.write_all(bytes).is_ok();
-    if !done {
-        tell(rt, failure);
+// Bytes that are all a program has to write; where they cannot be written, a line on standard error says so.
+pub fn deliver(rt: &HostRuntime, bytes: &[u8], failure: &str) {
+    if rt.write_all(bytes).is_err() {
+        let _ = rt.eprintln(failure);
     }
-}
-
-// Bytes as they are, on standard error.
-pub fn tell(rt: &HostRuntime, bytes: &[u8]) {
-    let _ = rt.stderr().write_all(bytes);
 }
 
 // A number, in decimal.
-pub fn number(rt: &impl Print, n: usize) {
-    let _ = rt.print(n);
-}
-
-// The same on standard error.
-pub fn tell_number(rt: &HostRuntime, n: usize) {
-    let _ = rt.eprint(n);
-}
-
-// A number of a list, with a space before it unless it is the first.
-fn item(rt: &impl Print, i: usize, n: usize) {
-    if 0 < i {
-        text(rt, b" ");
-    }
-    number(rt, n);
+pub fn number(out: &impl Print, n: usize) {
+    let _ = out.print(n);
 }
 
 // Numbers, with a space between two of them.
-pub fn numbers(rt: &impl Print, list: &[usize]) {
-    for (i, n) in list.iter().enumerate() {
-        item(rt, i, *n);
+#[derive(Drop)]
+struct Spaced<'a>(&'a [usize]);
+
+impl fmt::Display for Spaced<'_> {
+    fn fmt<W: fmt::Write>(&self, f: &mut fmt::Formatter<W>) -> fmt::Result {
+        for (i, n) in self.0.iter().enumerate() {
+            if 0 < i {
+                f.write_str(" ")?;
+            }
+            write!(f, "{n}")?;
+        }
+        Ok(())
     }
+}
+
+// The same, printed.
+pub fn numbers(out: &impl Print, list: &[usize]) {
+    let _ = out.print(Spaced(list));
 }
 
 // The same, and the end of the line.
-pub fn row(rt: &impl Print, list: &[usize]) {
-    numbers(rt, list);
-    text(rt, b"\n");
+pub fn row(out: &impl Print, list: &[usize]) {
+    let _ = out.println(Spaced(list));
 }
 
 // The number that an accepted call answered.
-pub fn done(rt: &impl Print, n: usize) {
-    text(rt, b"done ");
-    number(rt, n);
+pub fn done(out: &impl Print, n: usize) {
+    let _ = print!(out; "done {n}");
 }
 
 // The number and the position by which a call refused.
-pub fn refused(rt: &impl Print, rule: u8, at: usize) {
-    text(rt, b"refused ");
-    numbers(rt, &[rule as usize, at]);
+pub fn refused(out: &impl Print, refusal: Refusal) {
+    let _ = print!(out; "refused {} {}", refusal.rule.number(), refusal.at);
 }
 
-// 0, 1, or x for 2.
-pub fn value(rt: &impl Print, v: u8) {
-    match v {
-        0 => text(rt, b"0"),
-        1 => text(rt, b"1"),
-        2 => text(rt, b"x"),
-        _ => text(rt, b"?"),
+// What a call answered.
+pub fn outcome(out: &impl Print, outcome: Result<usize, Refusal>) {
+    match outcome {
+        Ok(n) => done(out, n),
+        Err(refusal) => refused(out, refusal),
     }
 }
 
-// Values, with nothing between them.
-pub fn values(rt: &impl Print, list: &[u8]) {
-    for v in list {
-        value(rt, *v);
+// Values, with nothing between them: 0, 1, or x for 2.
+#[derive(Drop)]
+struct Joined<'a>(&'a [u8]);
+
+impl fmt::Display for Joined<'_> {
+    fn fmt<W: fmt::Write>(&self, f: &mut fmt::Formatter<W>) -> fmt::Result {
+        for value in self.0 {
+            f.write_str(match value {
+                0 => "0",
+                1 => "1",
+                2 => "x",
+                _ => "?",
+            })?;
+        }
+        Ok(())
     }
 }
 
-// The digit of a number below 16.
-fn digit(n: u8) -> u8
-    requires { n < 16 }
-{
-    if n < 10 { b'0' + n } else { b'a' - 10 + n }
+// The same, printed.
+pub fn values(out: &impl Print, list: &[u8]) {
+    let _ = out.print(Joined(list));
 }
 
-// A byte's two digits, put here; where the next stand.
-fn put_byte(out: &mut Digits, at: usize, byte: u8) -> usize
-    requires { at + 2 ≤ 4096 }
-    ensures { result ≡ at + 2 }
-{
-    out[at] = digit(byte / 16);
-    out[at + 1] = digit(byte % 16);
-    at + 2
+// Bytes in hexadecimal, so many a line.
+#[derive(Drop)]
+struct HexLines<'a> {
+    bytes: &'a [u8],
+    width: usize,
 }
 
-// The end of a line, where there is one.
-fn put_end(out: &mut Digits, at: usize, ends: bool) -> usize
-    requires { at < 4096 }
-    ensures { result ≤ at + 1 }
-{
-    if ends {
-        out[at] = b'\n';
-        return at + 1;
+impl fmt::Display for HexLines<'_> {
+    fn fmt<W: fmt::Write>(&self, f: &mut fmt::Formatter<W>) -> fmt::Result {
+        for (i, byte) in self.bytes.iter().enumerate() {
+            if 0 < i && i.is_multiple_of(self.width) {
+                f.write_str("\n")?;
+            }
+            write!(f, "{byte:02x}")?;
+        }
+        Ok(())
     }
-    at
 }
 
-fn write_digits(rt: &impl Print, out: &Digits, size: usize)
-    requires { size ≤ 4096 }
-{
-    text(rt, &out[..size]);
-}
-
-// Writes the digits where there is no room for more; where the next stand.
-fn emptied(rt: &impl Print, out: &Digits, at: usize) -> usize
-    requires { at ≤ 4096 }
-    ensures { result ≤ 4093 }
-{
-    if 4093 < at {
-        write_digits(rt, out, at);
-        return 0;
-    }
-    at
-}
-
-// Bytes in hexadecimal, so many a line, with the end of a line between two of them.
-pub fn hex(rt: &impl Print, bytes: &[u8], width: usize)
+// The same, printed, with the end of a line between two of them.
+pub fn hex(out: &impl Print, bytes: &[u8], width: usize)
     requires { 0 < width }
 {
-    let mut out = [0u8; 4096];
-    let mut at: usize = 0;
-    for (i, byte) in bytes.iter().enumerate() {
-        at = emptied(rt, &out, at);
-        at = put_end(&mut out, at, 0 < i && i % width == 0);
-        at = put_byte(&mut out, at, *byte);
-    }
-    write_digits(rt, &out, at);
+    let _ = out.print(HexLines { bytes, width });
 }
 
 // A number of an area that is too long to print: any one byte that is changed, and nearly any two that change places, give another.
 pub fn checksum(bytes: &[u8]) -> usize {
     let mut sum: usize = 1;
     for byte in bytes {
-        sum = (257 * sum + basics::wide(*byte)) % 1000000007;
+        sum = (257 * sum + usize::from(*byte)) % 1000000007;
     }
     sum
 }
@@ -179,15 +149,12 @@ pub fn long_at(bytes: &[u8], i: usize) -> usize
     requires { i + 4 ≤ length bytes.now }
     ensures { result < 4294967296 }
 {
-    basics::word_at(bytes, i) + 65536 * basics::word_at(bytes, i + 2)
+    u32::from_le_bytes([bytes[i], bytes[i + 1], bytes[i + 2], bytes[i + 3]]) as usize
 }
 
 // Whether the program is given so many arguments; its name is argument 0.
 pub fn has_argument(rt: &impl Env, i: usize) -> bool {
-    match rt.arg(i, &mut []) {
-        Err(FillError::NotPresent) => false,
-        _ => true,
-    }
+    !matches!(rt.arg(i, &mut []), Err(FillError::NotPresent))
 }
 
 // Puts the argument's bytes at the start of the area; how many, or none where there is no such argument or it is longer than the area.
@@ -209,10 +176,9 @@ fn reason(words: &str) -> &str {
 // A line on standard error: what failed, and why in the system's words.
 pub fn tell_error(rt: &HostRuntime, what: &[u8], error: &io::Error) {
     let words = InlineText::<256>::of(*error);
-    tell(rt, what);
-    tell(rt, b": ");
-    tell(rt, reason(words.as_str()).as_bytes());
-    tell(rt, b"\n");
+    let reason = reason(words.as_str());
+    text(&rt.stderr(), what);
+    let _ = eprintln!(rt; ": {reason}");
 }
 
 // Puts what the file gives at the start of the area, until the area is full, the file ends or a read fails; how many bytes.
@@ -220,6 +186,7 @@ fn fill(file: &mut impl Read, area: &mut [u8]) -> usize
     ensures { IsPrefixLen result area.new }
 {
     let mut done: usize = 0;
+    // A read gives what there is: no range counts it.
     while done < area.len() {
         let got = file.read(&mut area[done..]).unwrap_or(0);
         if got == 0 {
@@ -252,74 +219,72 @@ pub fn read(rt: &HostRuntime, name: &[u8], area: &mut [u8]) -> usize
     }
 }
 
-// What was read of a file: so many bytes, and whether there are more behind them; or that there is no such file, or that it cannot be read.
+// What was read of a file, with how many bytes.
 #[derive(Clone, Copy)]
-pub struct Input {
-    pub size: usize,
-    pub more: bool,
-    pub missing: bool,
-    pub failed: bool,
+pub enum Input {
+    // There is no such file.
+    Missing,
+    // All of it.
+    Whole(usize),
+    // As much as there is room for, and there is more behind it.
+    Longer(usize),
+    // No further, as standard error says; `more` where a last look found a byte more all the same.
+    Broken { size: usize, more: bool },
 }
 
 // A file that was not opened: there is none, or standard error says why not.
 fn unopened(rt: &HostRuntime, name: &[u8], error: &io::Error) -> Input
-    ensures { result.size ≡ 0 }
+    ensures { size_of result ≡ 0 }
 {
-    let missing = error.kind() == ErrorKind::NotFound;
-    if !missing {
-        tell_error(rt, name, error);
+    if error.kind() == ErrorKind::NotFound {
+        return Input::Missing;
     }
-    Input {
+    tell_error(rt, name, error);
+    Input::Broken {
         size: 0,
         more: false,
-        missing,
-        failed: !missing,
     }
 }
 
-// Whether the file was not read as far as it should be, which standard error then says: by what the read of one byte more answered, and
-// whether the area was full before it.
-fn cut_short(rt: &HostRuntime, name: &[u8], next: io::Result<usize>, full: bool) -> bool {
+// What the read of one byte more tells, where so many bytes were read, and whether the area was full of them. A file that was not read as far as
+// it should be is named on standard error.
+fn input_of(
+    rt: &HostRuntime,
+    name: &[u8],
+    next: io::Result<usize>,
+    size: usize,
+    full: bool,
+) -> Input
+    ensures { size_of result ≡ size }
+{
     match next {
+        Ok(0) => Input::Whole(size),
+        Ok(_) if full => Input::Longer(size),
+        Ok(_) => {
+            text(&rt.stderr(), name);
+            let _ = rt.eprintln(": not read to its end");
+            Input::Broken { size, more: true }
+        }
         Err(e) => {
             tell_error(rt, name, &e);
-            true
-        }
-        Ok(0) => false,
-        Ok(_) => {
-            if full {
-                return false;
-            }
-            tell(rt, name);
-            tell(rt, b": not read to its end\n");
-            true
+            Input::Broken { size, more: false }
         }
     }
 }
 
 // Puts the bytes of an open file at the start of the area, as many as there is room for, and looks for one more.
 fn read_open(rt: &HostRuntime, name: &[u8], file: &mut impl Read, area: &mut [u8]) -> Input
-    ensures { IsPrefixLen result.size area.new }
+    ensures { IsPrefixLen (size_of result) area.new }
 {
     let size = fill(file, area);
     let next = file.read(&mut [0u8; 1]);
-    let more = match next {
-        Ok(got) => got > 0,
-        Err(_) => false,
-    };
-    let failed = cut_short(rt, name, next, size == area.len());
-    Input {
-        size,
-        more,
-        missing: false,
-        failed,
-    }
+    input_of(rt, name, next, size, size == area.len())
 }
 
 // Puts the file's bytes at the start of the area, as many as there is room for, and looks for one more. A missing file is empty; one that
 // is there and cannot be read is named on standard error with the reason.
 pub fn read_file(rt: &HostRuntime, name: &[u8], area: &mut [u8]) -> Input
-    ensures { IsPrefixLen result.size area.new }
+    ensures { IsPrefixLen (size_of result) area.new }
 {
     match open(rt, name) {
         Ok(mut file) => read_open(rt, name, &mut file, area),
@@ -331,31 +296,35 @@ pub fn read_file(rt: &HostRuntime, name: &[u8], area: &mut [u8]) -> Input
 pub fn kept(area: &[u8], byte: u8) -> bool
     ensures { (result ≡ true → Only byte area.now) × (Only byte area.now → result ≡ true) }
 {
-    for x in area {
-        if *x != byte {
-            return false;
-        }
-    }
-    true
+    area.iter().all(|x| *x == byte)
 }
 
 // The end of a job's line: whether the bytes that must stay have stayed.
-pub fn kept_or_changed(rt: &impl Print, same: bool) {
-    if same {
-        text(rt, b" kept\n");
-    } else {
-        text(rt, b" CHANGED\n");
-    }
+pub fn kept_or_changed(out: &impl Print, same: bool) {
+    let _ = out.println(if same { " kept" } else { " CHANGED" });
 }
 
 // The line of a refused job, which must leave every byte of both areas.
-pub fn refused_job(rt: &impl Print, rule: u8, at: usize, work: &[u8], res: &[u8]) {
-    refused(rt, rule, at);
-    let same = kept(work, BLANK) && kept(res, BLANK);
-    kept_or_changed(rt, same);
+pub fn refused_job(out: &impl Print, refusal: Refusal, work: &[u8], res: &[u8]) {
+    refused(out, refusal);
+    kept_or_changed(out, kept(work, BLANK) && kept(res, BLANK));
 }
 
-// The line of a last job that the file does not hold whole.
-pub fn cut_off(rt: &impl Print) {
-    text(rt, b"the last job is cut off\n");
+// Runs the jobs that stand one behind the other. `run` takes what begins with a job and answers what is behind the job, or none where the job is
+// cut off, which is then said.
+pub fn run_jobs<F: Fn(&[u8]) -> Option<&[u8]>>(out: &impl Print, jobs: &[u8], run: F)
+    requires callable { F.IsAlwaysCallable run }
+    requires shorter { (job : _) (rest : _) → 0 < length job.now → F.post run job (Some rest) → length rest.now < length job.now }
+{
+    let mut rest = jobs;
+    // Each job tells where the next begins.
+    while !rest.is_empty() {
+        match run(rest) {
+            Some(next) => rest = next,
+            None => {
+                let _ = out.println("the last job is cut off");
+                return;
+            }
+        }
+    }
 }

@@ -3,69 +3,58 @@
 // the work area is as it was.
 #![tactic(auto)]
 
-ghost use Rattle.std.specs.Prelude.{◌≤◌};
+ghost use Rattle.std.specs.Prelude.{◌≤◌, IfSome};
 ghost use Rattle.printing.specs.Prefix.{IsPrefixLen};
 
-use job::Outcome;
-use printing::BLANK;
+use calls::{Kind, Lent};
+use printing::{BLANK, Input};
 
 // How long an area may be.
 const AREA: usize = 196608;
 
 // What call.dat tells.
 #[derive(Clone, Copy)]
-struct Call {
-    number: u8,
+struct Told {
+    kind: Kind,
     k: usize,
     room: usize,
     size: usize,
 }
 
 // Byte 0 the number of the call, byte 1 zero, then k in two bytes, and in four each the lengths of the work area and the result area.
-fn call_of(told: &[u8; 13]) -> Call {
-    let bytes = &told[..];
-    Call {
-        number: told[0],
+fn told_by(bytes: &[u8; 13]) -> Option<Told> {
+    let kind = Kind::try_from(bytes[0]).ok()?;
+    (bytes[1] == 0).then_some(Told {
+        kind,
         k: basics::word_at(bytes, 2),
         room: printing::long_at(bytes, 4),
         size: printing::long_at(bytes, 8),
-    }
-}
-
-// Whether call.dat has its twelve bytes, and the first two name a call.
-fn is_call(told: &[u8; 13], size: usize) -> bool {
-    let number = told[0];
-    let named = basics::both(1 <= number, number <= 4);
-    basics::both(size == 12, basics::both(named, told[1] == 0))
+    })
 }
 
 // A file's bytes, at the start of the area; how many. A file that is longer than the area has a line of its own.
 fn read(rt: &HostRuntime, name: &[u8], area: &mut [u8]) -> usize
     ensures { IsPrefixLen result area.new }
 {
-    let file = printing::read_file(rt, name, area);
-    if file.more {
+    let (size, more) = match printing::read_file(rt, name, area) {
+        Input::Missing => (0, false),
+        Input::Whole(size) => (size, false),
+        Input::Longer(size) => (size, true),
+        Input::Broken { size, more } => (size, more),
+    };
+    if more {
         printing::text(rt, b"too long ");
         printing::text(rt, name);
         printing::text(rt, b"\n");
     }
-    file.size
-}
-
-fn print_outcome(rt: &impl Print, outcome: Outcome) {
-    match outcome {
-        Outcome::Done(n) => printing::done(rt, n),
-        Outcome::Refused { rule, at } => printing::refused(rt, rule, at),
-    }
-    printing::text(rt, b"\n");
+    size
 }
 
 // The result area of this length, 32 bytes a line.
 fn print_result(rt: &impl Print, res: &[u8; AREA], size: usize)
     requires { size ≤ 196608 }
 {
-    let area = &res[..];
-    printing::hex(rt, &area[0..size], 32);
+    printing::hex(rt, &res[..size], 32);
     if 0 < size {
         printing::text(rt, b"\n");
     }
@@ -79,40 +68,23 @@ fn print_work(rt: &impl Print, work: &[u8; AREA]) {
     }
 }
 
-fn run(
-    rt: &impl Print,
-    call: Call,
-    circuit: &[u8],
-    test: &[u8],
-    faults: &[u8],
-    plan: &[u8],
-    verdicts: &[u8],
-)
-    requires { (call.room ≤ 196608) × (call.size ≤ 196608) }
+fn run(rt: &impl Print, told: Told, lent: Lent)
+    requires { (told.room ≤ 196608) × (told.size ≤ 196608) }
 {
     let mut work = [BLANK; AREA];
     let mut result = [BLANK; AREA];
-    let room = call.room;
-    let size = call.size;
-    let outcome = calls::call(
-        call.number,
-        circuit,
-        test,
-        faults,
-        plan,
-        verdicts,
-        call.k,
-        &mut work[0..room],
-        &mut result[0..size],
-    );
-    print_outcome(rt, outcome);
+    let room = told.room;
+    let size = told.size;
+    let outcome = calls::call(told.kind, lent, &mut work[..room], &mut result[..size]);
+    printing::outcome(rt, outcome);
+    printing::text(rt, b"\n");
     print_result(rt, &result, size);
     print_work(rt, &work);
 }
 
 // The call with the files lent.
-fn run_on_files(rt: &HostRuntime, call: Call)
-    requires { (call.room ≤ 196608) × (call.size ≤ 196608) }
+fn run_on_files(rt: &HostRuntime, told: Told)
+    requires { (told.room ≤ 196608) × (told.size ≤ 196608) }
 {
     let mut circuit: [u8; 65552] = printing::zeros();
     let mut test: [u8; 65552] = printing::zeros();
@@ -124,36 +96,33 @@ fn run_on_files(rt: &HostRuntime, call: Call)
     let list = read(rt, b"faults.dat", &mut faults);
     let pairs = read(rt, b"plan.dat", &mut plan);
     let records = read(rt, b"verdicts.dat", &mut verdicts);
-    run(
-        rt,
-        call,
-        &circuit[..lines],
-        &test[..units],
-        &faults[..list],
-        &plan[..pairs],
-        &verdicts[..records],
-    );
+    let lent = Lent {
+        circuit: &circuit[..lines],
+        test: &test[..units],
+        faults: &faults[..list],
+        plan: &plan[..pairs],
+        verdicts: &verdicts[..records],
+        k: told.k,
+    };
+    run(rt, told, lent);
 }
 
-fn bad_call(rt: &impl Print) {
-    printing::text(rt, b"bad call\n");
+// What call.dat tells, where it has its twelve bytes and they tell of a call with areas that are not too long.
+fn read_call(rt: &HostRuntime) -> Option<Told>
+    ensures { IfSome result (λ told. (told.room ≤ 196608) × (told.size ≤ 196608)) }
+{
+    let mut bytes = [0u8; 13];
+    match printing::read_file(rt, b"call.dat", &mut bytes) {
+        Input::Whole(12) | Input::Broken { size: 12, .. } => {}
+        _ => return None,
+    }
+    let told = told_by(&bytes)?;
+    (told.room <= AREA && told.size <= AREA).then_some(told)
 }
 
 fn main(rt: HostRuntime) {
-    let mut told = [0u8; 13];
-    let file = printing::read_file(&rt, b"call.dat", &mut told);
-    if !is_call(&told, file.size) {
-        bad_call(&rt);
-        return;
+    match read_call(&rt) {
+        Some(told) => run_on_files(&rt, told),
+        None => printing::text(&rt, b"bad call\n"),
     }
-    let call = call_of(&told);
-    if AREA < call.room {
-        bad_call(&rt);
-        return;
-    }
-    if AREA < call.size {
-        bad_call(&rt);
-        return;
-    }
-    run_on_files(&rt, call);
 }

@@ -2,6 +2,7 @@
 use Rattle.std.specs.Prelude.{List, ℕ, ◌<◌, ◌≤◌, length}
 use Rattle.model.specs.Inputs.{L}
 use Rattle.job.specs.declared.Job.{Job}
+use Rattle.run.specs.declared.Setup.{Setup}
 use Rattle.run.specs.Run.{Runnable}
 use Rattle.faults.specs.Given.{Blank}
 use Rattle.pick.specs.Pick.{PickRoom}
@@ -13,3 +14,8 @@ pub record Workable (c t : List ℕ) (job : Job) (pins flops outs hits masks fee
   pub few_hits : length hits ≤ 65536
   pub nout_room : L c t < length nout
   pub pick_room : PickRoom c t free states list merits extras
+
+-- the same of a setup
+abbrev pub Works : Setup → List ℕ → List ℕ → List ℕ → List ℕ → List ℕ → List ℕ → List ℕ → List ℕ → List ℕ → List ℕ → List ℕ → Type 0
+Works s hits masks feed words state free states list nout merits extras =
+    Workable s.circuit.now s.test.now s.job s.pins.now s.flops.now s.outs.now hits masks feed words state free states list nout merits extras

@@ -9,15 +9,16 @@ ghost use Rattle.bench_text.specs.Promises.{ReadsBench};
 ghost use Rattle.rules.specs.Check.{refusal_of};
 ghost use Rattle.job.specs.Job.{answer_of};
 ghost use Rattle.lookup.specs.Lookup.{Held};
-ghost use Rattle.definitions.specs.Reached.{Collected};
+ghost use Rattle.definitions.specs.Tables.{HeldAs};
 ghost use Rattle.read_bench.specs.Noted.{Noted, marked, defined, Noting, NotesLine, AllNoted, Inspected};
 
-use definitions::Known;
+use definitions::Definitions;
 use job::Outcome;
 use lookup::{HEADS, HELD, NAMES};
-use rules::{Check, CircuitCheck};
-use sentences::Line;
-use tokens::PARTS;
+use parts::NO_PART;
+use rules::{Refusal, Rule, refuse};
+use sentences::{Line, Sort};
+use tokens::KEPT;
 
 // Bytes for the records of the lines that are held, twelve a line.
 pub const RECORDS: usize = 49152;
@@ -49,47 +50,37 @@ fn note(records: &mut [u8], count: usize, above: usize, line: Line, lines: &[usi
     if HELD < count {
         return;
     }
-    if line.sort == sentences::OUTPUT {
-        mark(records, lines[0]);
-        return;
+    match line.sort {
+        Sort::Defines(kind) => define(records, above, kind, line.pins as u8, lines),
+        Sort::Output => mark(records, lines[0]),
+        Sort::Nothing | Sort::Malformed => {}
     }
-    if 9 < line.sort {
-        return;
-    }
-    define(records, above, line.sort, line.pins as u8, lines);
 }
 
 // 18 to 20 of the text lines in order; the records are written as far as there is room for all lines.
-fn check_lines(
-    text: &[u8],
-    names: &[usize],
-    heads: &[usize],
-    known: Known,
-    records: &mut [u8],
-) -> Check
-    requires { Collected text.now names.now heads.now known × Noted text.now records.old 0 0 }
-    ensures refusal { refusal_of result ≡ text_rows text.now }
-    ensures writes { AllNoted text.now records.new result }
+fn check_lines(defined: Definitions, records: &mut [u8]) -> Result<(), Refusal>
+    requires { HeldAs defined × Noted defined.text.now records.old 0 0 }
+    ensures refusal { refusal_of result ≡ text_rows defined.entry.text.now }
+    ensures writes { AllNoted defined.entry.text.now records.new result }
 {
-    let mut parts = [0usize; PARTS];
+    let text = defined.text;
+    let mut parts = [NO_PART; KEPT];
     let mut lines = [0usize; 4];
     let mut at: usize = 0;
     let mut j: usize = 0;
     let mut above: usize = 0;
+    // Each text line tells where the next begins.
     while at < text.len() {
         let line = sentences::read_line(text, at, &mut parts);
-        let check = bench_line::check_line(
-            text, names, heads, known, &parts, line, above, j, &mut lines,
-        );
-        if let Check::Broken { rule, at } = check {
-            return Check::Broken { rule, at };
+        bench_line::check_line(defined, &parts, line, above, j, &mut lines)?;
+        note(records, defined.known.lines, above, line, &lines);
+        if let Sort::Defines(_) = line.sort {
+            above += 1;
         }
-        note(records, known.lines, above, line, &lines);
-        above += basics::one_if(line.sort <= 9);
         at = line.next;
         j += 1;
     }
-    Check::Passed
+    Ok(())
 }
 
 // What a text is refused by but for its area, or how many lines it defines; then their names are held and their records written.
@@ -98,20 +89,18 @@ pub fn inspect(text: &[u8], names: &mut [usize], heads: &mut [usize], records: &
     ensures { Inspected text.now names.new heads.new records.new result }
 {
     let known = definitions::collect(text, names, heads);
-    match check_lines(text, names, heads, known, records) {
-        Check::Broken { rule, at } => Outcome::Refused { rule, at },
-        Check::Passed => {
-            let count = known.lines;
-            if HELD < count {
-                return Outcome::Refused { rule: 1, at: 0 };
-            }
-            let size = 12 * count;
-            match rules::check_circuit(&records[..size]) {
-                CircuitCheck::Broken { rule, at } => Outcome::Refused { rule, at },
-                CircuitCheck::Sized(_) => Outcome::Done(count),
-            }
-        }
-    }
+    let defined = Definitions {
+        text,
+        names: &*names,
+        heads: &*heads,
+        known,
+    };
+    check_lines(defined, records)?;
+    let count = known.lines;
+    refuse(HELD < count, Rule::CircuitLength, 0)?;
+    let size = 12 * count;
+    rules::check_circuit(&records[..size])?;
+    Ok(count)
 }
 
 // The circuit that a bench text describes; see README.md, Calls.
@@ -123,17 +112,11 @@ pub fn read_bench(text: &[u8], res: &mut [u8]) -> Outcome
     let mut names = [0usize; NAMES];
     let mut heads = [0usize; HEADS];
     let mut records = [0u8; RECORDS];
-    match inspect(text, &mut names, &mut heads, &mut records) {
-        Outcome::Refused { rule, at } => Outcome::Refused { rule, at },
-        Outcome::Done(count) => {
-            let size = 12 * count;
-            if res.len() < size {
-                return Outcome::Refused { rule: 14, at: 0 };
-            }
-            res[..size].copy_from_slice(&records[..size]);
-            Outcome::Done(count)
-        }
-    }
+    let count = inspect(text, &mut names, &mut heads, &mut records)?;
+    let size = 12 * count;
+    refuse(res.len() < size, Rule::ResultArea, 0)?;
+    res[..size].copy_from_slice(&records[..size]);
+    Ok(count)
 }
 
 // The name of a line, as the part of the text where it is defined; see README.md, Calls.
@@ -145,12 +128,7 @@ pub fn name_of(text: &[u8], line: usize) -> &[u8]
     let mut heads = [0usize; HEADS];
     let mut records = [0u8; RECORDS];
     match inspect(text, &mut names, &mut heads, &mut records) {
-        Outcome::Refused { rule: _, at: _ } => &text[0..0],
-        Outcome::Done(count) => {
-            if count <= line {
-                return &text[0..0];
-            }
-            lookup::name(text, &names, line)
-        }
+        Ok(count) if line < count => lookup::name(text, &names, line),
+        _ => &text[0..0],
     }
 }

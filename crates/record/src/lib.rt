@@ -7,8 +7,8 @@ ghost use Rattle.lists.specs.Field.{bytes16, overwritten};
 ghost use Rattle.model.specs.Grade.{placed, record_bytes};
 ghost use Rattle.record.specs.Record.{verdict_of, carrying};
 
-// The record's fields, in its order.
-#[derive(Clone, Copy)]
+// The record's fields, in its order, as the numbers that its bytes have.
+#[derive(Clone, Copy, Default)]
 pub struct Verdict {
     pub verdict: u8,
     pub m: u8,
@@ -26,13 +26,9 @@ pub fn placed(verdict: u8, time: usize, line: usize) -> Verdict
 {
     Verdict {
         verdict,
-        m: 0,
         time,
         line,
-        differing: 0,
-        clashing: 0,
-        surviving: 0,
-        start: 0,
+        ..Verdict::default()
     }
 }
 
@@ -50,12 +46,11 @@ pub fn counted(
     Verdict {
         verdict,
         m,
-        time: 0,
-        line: 0,
         differing,
         clashing,
         surviving,
         start,
+        ..Verdict::default()
     }
 }
 
@@ -64,8 +59,8 @@ pub fn put16(area: &mut [u8], at: usize, value: usize)
     requires { at + 2 ≤ length area.old }
     ensures { area.new ≡ sets area.old at (bytes16 value) }
 {
-    area[at] = (value % 256) as u8;
-    area[at + 1] = (value / 256 % 256) as u8;
+    let low = (value % 65536) as u16;
+    area[at..at + 2].copy_from_slice(&low.to_le_bytes());
 }
 
 // Two 16-bit fields, at the area's beginning.

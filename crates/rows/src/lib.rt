@@ -22,10 +22,7 @@ pub fn copy_row(from: &[u8], count: usize, to: &mut [u8])
 fn if_x(a: u8, b: u8, other: u8) -> u8
     ensures { result ≡ cond (eqb a X) b other }
 {
-    if a == 2 {
-        return b;
-    }
-    other
+    if a == 2 { b } else { other }
 }
 
 // Of the state in a lane, the places that are X in the plain row; X elsewhere.
@@ -34,11 +31,9 @@ pub fn extra_row(plain: &[u8], state: &[u64], count: usize, lane: usize, row: &m
     ensures { (st : List ℕ) → Lane lane state.now st → length st ≡ count → ThreeValued st
         → row.new ≡ overwritten (where_x (take count plain.now) st) row.old }
 {
-    let mut s: usize = 0;
-    while s < count {
+    for s in 0..count {
         let value = lanes::read(state, s).lane(lane);
         row[s] = if_x(plain[s], value, 2);
-        s += 1;
     }
 }
 
@@ -47,11 +42,7 @@ pub fn one_bit(count: usize, i: usize, value: u8, row: &mut [u8])
     requires { (i < count) × (count ≤ length row.old) }
     ensures { row.new ≡ overwritten (set (replicate count X) i value) row.old }
 {
-    let mut s: usize = 0;
-    while s < count {
-        row[s] = 2;
-        s += 1;
-    }
+    row[..count].fill(2);
     row[i] = value;
 }
 
@@ -74,13 +65,11 @@ pub fn give_row(extra: &[u8], count: usize, row: &mut [u8]) -> bool
         → row.new ≡ overwritten (give_row (take count row.old) (take count extra.now)) row.old) }
 {
     let mut found = false;
-    let mut s: usize = 0;
-    while s < count {
+    for s in 0..count {
         let a = row[s];
         let b = extra[s];
-        found = basics::either(found, opposing(a, b));
+        found |= opposing(a, b);
         row[s] = if_x(a, b, a);
-        s += 1;
     }
     found
 }
@@ -90,13 +79,7 @@ pub fn specified(row: &[u8], count: usize) -> usize
     requires { count ≤ length row.now }
     ensures { (result ≡ size (take count row.now)) × (result ≤ count) }
 {
-    let mut found: usize = 0;
-    let mut s: usize = 0;
-    while s < count {
-        found += basics::one_if(row[s] <= 1);
-        s += 1;
-    }
-    found
+    row[..count].iter().filter(|value| **value <= 1).count()
 }
 
 // Some place is specified in both rows.
@@ -104,11 +87,8 @@ pub fn overlap(a: &[u8], b: &[u8], count: usize) -> bool
     requires { (count ≤ length a.now) × (count ≤ length b.now) }
     ensures { result ≡ overlaps (take count a.now) (take count b.now) }
 {
-    let mut found = false;
-    let mut s: usize = 0;
-    while s < count {
-        found = basics::either(found, basics::both(a[s] <= 1, b[s] <= 1));
-        s += 1;
-    }
-    found
+    a[..count]
+        .iter()
+        .zip(&b[..count])
+        .any(|(a, b)| *a <= 1 && *b <= 1)
 }

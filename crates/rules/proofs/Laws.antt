@@ -1,50 +1,35 @@
--- How rows are joined, and what an answer holds.
+-- What a check's answer says of the rows, and how one that asks several in turn joins them.
 use mathlib.Core.Path.{◌≡◌, sym, ap, ◌∙◌}
-use mathlib.Core.Bool.{Bool}
-use mathlib.Core.List.{List}
 use mathlib.Core.Option.{none, some}
 use Prim.Native.Nat.{ℕ}
 use native.Mathlib.Omega.{arith}
+use Rattle.std.specs.Prelude.{Result, Ok, Err}
 use Rattle.lists.specs.Scan.{◌else◌}
-use Rattle.model.specs.Refusals.{Refusal, refuse, circuit_rows}
-use Rattle.circuit.specs.declared.Sizes.{Sizes}
-use Rattle.circuit.specs.Table.{SizesOf}
-use Rattle.rules.specs.Check.{refusal_of, circuit_refusal_of, CircuitChecked}
-use Rattle.rules.specs.declared.Check.{Check}
-use Rattle.rules.specs.declared.Check.TheVariants as check
-use Rattle.rules.specs.declared.CircuitCheck.{CircuitCheck}
-use Rattle.rules.specs.declared.CircuitCheck.TheVariants.{Sized, Broken}
+use Rattle.lists.proofs.Scan.{else_found, else_skips}
+use Rattle.model.specs.Refusals as model
+use Rattle.rules.specs.Check.{number_of, refusal_of}
+use Rattle.rules.specs.declared.Refusal.{Refusal}
 
--- two rows, by what was tested
-pub two-rows : {r x y : Refusal} {a b a' b' : Bool} (number at number' at' : ℕ) → r ≡ (x else y) → x ≡ refuse a number at → y ≡ refuse b number' at' → a ≡ a' → b ≡ b'
-    → r ≡ (refuse a' number at else refuse b' number' at')
-two-rows number at number' at' e ex ey ea eb = e ∙ rw (ex, ey, ea, eb)
+-- what `?` hands on is the refusal that it met
+abbrev pub HandsOn : {U : Type 0} → Result U Refusal → Refusal → Type 0
+HandsOn r e = (x : Refusal) × (r ≡ Err x) × (x ≡ e)
 
--- the sizes in an answer are the ones that were put there
-pub sized-is : (c : List ℕ) (a s : Sizes) → Sized a ≡ Sized s → SizesOf c a → SizesOf c s
-sized-is c a s e of = let same : a ≡ s = cc in rw (← same) of
-
-pub broken_unsized : (rule at : ℕ) (s : Sizes) → Broken rule at ≡ Sized s → ⊥
-broken_unsized rule at s e = let z : ◌≡◌ {A = ℕ} 0 1 = cc in (let w : ⊥ = omega arith in w)
-
--- ---- a check's answer
-module _ {rows : Refusal} {r : Check} where
-  -- what is passed breaks no row
-  pub passed_none : refusal_of r ≡ rows → r ≡ check.Passed → rows ≡ none
+-- ---- rows asked in turn, each by a `?`; `refusal_of` unfolds where these are cited
+module _ {U : Type 0} {rows : model.Refusal} {r : Result U Refusal} {e : Refusal} where
+  -- a `?` that ends it returns what was broken
+  pub ended : HandsOn r e → some (number_of e.rule, e.at) ≡ rows → refusal_of r ≡ rows
   unfolding refusal_of
-  passed_none checked e = sym checked ∙ ap refusal_of e
+  ended h told = ap refusal_of h.1 ∙ ap (λ x. refusal_of {T = U} (Err x)) h.2 ∙ told
 
-  -- what is not breaks the row that is named
-  pub broken_some : {rule at : ℕ} → refusal_of r ≡ rows → r ≡ check.Broken rule at → rows ≡ some (rule, at)
+  -- the same, where rows are still to come
+  pub ended_early : (more : model.Refusal) → HandsOn r e → some (number_of e.rule, e.at) ≡ rows → refusal_of r ≡ (rows else more)
   unfolding refusal_of
-  broken_some checked e = sym checked ∙ ap refusal_of e
+  ended_early more h told = ap refusal_of h.1 ∙ ap (λ x. refusal_of {T = U} (Err x)) h.2 ∙ sym (else_found rows more (number_of e.rule, e.at) (sym told))
 
--- the same of a circuit
-module _ {c : List ℕ} {r : CircuitCheck} where
-  pub sized-none : {s : Sizes} → CircuitChecked c r → r ≡ Sized s → circuit_rows c ≡ none
-  unfolding circuit_refusal_of
-  sized-none checked e = sym checked.refusal ∙ ap circuit_refusal_of e
+-- rows that are passed leave it to those behind them
+pub went_on : {rows more told : model.Refusal} → none ≡ rows → told ≡ more → told ≡ (rows else more)
+went_on {rows} {more} passed e = e ∙ sym (else_skips rows more (sym passed))
 
-  pub unsized_some : {rule at : ℕ} → CircuitChecked c r → r ≡ Broken rule at → circuit_rows c ≡ some (rule, at)
-  unfolding circuit_refusal_of
-  unsized_some checked e = sym checked.refusal ∙ ap circuit_refusal_of e
+-- what refuses gives no value
+pub not_ok : {U : Type 0} {r : Result U Refusal} {e : Refusal} {x : U} → HandsOn r e → r ≡ Ok x → ⊥
+not_ok {U} {r} {e} {x} h told = let clash : ◌≡◌ {A = Result U Refusal} (Ok x) (Err h.0) = sym told ∙ h.1 in (let z : ◌≡◌ {A = ℕ} 0 1 = cc in (let w : ⊥ = omega arith in w))

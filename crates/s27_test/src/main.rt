@@ -2,9 +2,7 @@
 // fault its line, pin and value, and the first time unit at which an output shows the opposite of the fault-free response.
 #![tactic(auto)]
 
-ghost use Rattle.std.specs.Prelude.{◌+◌, ◌*◌, ◌<◌, ◌≤◌, length};
-
-use job::Outcome;
+ghost use Rattle.std.specs.Prelude.{◌<◌, ◌≤◌, length, IfSome};
 
 fn opposite(a: u8, b: u8) -> bool {
     match a {
@@ -14,71 +12,54 @@ fn opposite(a: u8, b: u8) -> bool {
     }
 }
 
-// The first place where they are opposite, or how many places there are.
-fn first_opposite(free: &[u8], faulty: &[u8]) -> usize
-    requires { length free.now ≤ length faulty.now }
-{
-    for i in 0..free.len() {
-        if opposite(free[i], faulty[i]) {
-            return i;
-        }
-    }
-    free.len()
-}
-
-// Where there are fewer responses than the fault-free ones, the refusal is already printed.
+// The time unit of the first place at which they are opposite, where there are so many outputs.
 fn print_time(rt: &impl Print, free: &[u8], faulty: &[u8], outputs: usize)
     requires { 0 < outputs }
 {
-    if faulty.len() < free.len() {
-        return;
+    match free.iter().zip(faulty).position(|(a, b)| opposite(*a, *b)) {
+        Some(place) => printing::row(rt, &[place / outputs]),
+        None => printing::text(rt, b"never\n"),
     }
-    let place = first_opposite(free, faulty);
-    if free.len() <= place {
-        printing::text(rt, b"never\n");
-        return;
-    }
-    printing::row(rt, &[place / outputs]);
-}
-
-fn print_refused(rt: &impl Print, rule: u8, at: usize) {
-    printing::refused(rt, rule, at);
-    printing::text(rt, b"\n");
 }
 
 // The responses, with at most one fault; how many. There is none where the job is refused, and number and position are printed.
-fn respond(rt: &impl Print, circuit: &[u8], test: &[u8], fault: &[u8], res: &mut [u8]) -> usize
-    ensures { result ≤ length res.old }
+fn respond(
+    rt: &impl Print,
+    circuit: &[u8],
+    test: &[u8],
+    fault: &[u8],
+    res: &mut [u8],
+) -> Option<usize>
+    ensures { IfSome result (λ n. n ≤ length res.old) }
 {
     let mut work = [0u8; 4096];
     match simulate::simulate(circuit, test, fault, &mut work, res) {
-        Outcome::Done(size) => {
-            if size <= res.len() {
-                return size;
-            }
+        Ok(size) => (size <= res.len()).then_some(size),
+        Err(refusal) => {
+            printing::refused(rt, refusal);
+            printing::text(rt, b"\n");
+            None
         }
-        Outcome::Refused { rule, at } => print_refused(rt, rule, at),
     }
-    0
 }
 
 fn print_fault(
     rt: &impl Print,
     circuit: &[u8],
     test: &[u8],
-    faults: &[u8],
-    j: usize,
+    fault: &[u8],
     free: &[u8],
     outputs: usize,
 )
-    requires { (4 * j + 4 ≤ length faults.now) × (0 < outputs) }
+    requires { (4 ≤ length fault.now) × (0 < outputs) }
 {
     let mut result = [0u8; 256];
-    let fault = circuit::fault_of(faults, j);
-    printing::numbers(rt, &[fault.line, fault.pin, basics::wide(fault.value)]);
+    let told = circuit::fault_of(fault, 0);
+    printing::numbers(rt, &[told.line, told.pin, usize::from(told.value)]);
     printing::text(rt, b" ");
-    let size = respond(rt, circuit, test, &faults[4 * j..4 * j + 4], &mut result);
-    print_time(rt, free, &result[0..size], outputs);
+    if let Some(size) = respond(rt, circuit, test, fault, &mut result) {
+        print_time(rt, free, &result[..size], outputs);
+    }
 }
 
 fn print_faults(
@@ -91,8 +72,8 @@ fn print_faults(
 )
     requires { 0 < outputs }
 {
-    for j in 0..faults.len() / 4 {
-        print_fault(rt, circuit, test, faults, j, free, outputs);
+    for fault in faults.chunks_exact(4) {
+        print_fault(rt, circuit, test, fault, free, outputs);
     }
 }
 
@@ -104,13 +85,12 @@ fn outputs_of(circuit: &[u8]) -> usize {
 // A job that is accepted has a response and an output.
 fn run(rt: &impl Print, circuit: &[u8], test: &[u8], faults: &[u8]) {
     let mut free = [0u8; 256];
-    let size = respond(rt, circuit, test, b"", &mut free);
-    if size == 0 {
+    let Some(size) = respond(rt, circuit, test, b"", &mut free) else {
         return;
-    }
+    };
     let outputs = outputs_of(circuit);
     if 0 < outputs {
-        print_faults(rt, circuit, test, faults, &free[0..size], outputs);
+        print_faults(rt, circuit, test, faults, &free[..size], outputs);
     }
 }
 

@@ -1,16 +1,21 @@
 -- Where a text line ends, where its comment begins, and its tokens.
-use mathlib.Core.Path.{◌≡◌, sym, ap, ◌∙◌}
-use mathlib.Core.List.{List}
+use mathlib.Core.Path.{◌≡◌, refl, sym, ap, ◌∙◌}
+use mathlib.Core.List.{List, [], ◌∷◌}
+use Rattle.std.specs.Prelude.{Some, None}
+use Rattle.std.specs.List.{position, position_or_len}
+use lib.Dec.{eqb, ltb}
+use Rattle.lists.proofs.Tests.{by-test}
 use Prim.Native.Nat.{ℕ, ◌+◌, ◌-◌, ◌≤◌, ◌<◌}
 use native.Mathlib.Numerals.{add-one}
 use Rattle.std.proofs.Common.{add-zero}
-use borrow.Author.Tests.{eq-eqb, ne_eqb}
+use borrow.Author.Tests.{eq-eqb, ne_eqb, ltb-false}
 use native.Mathlib.Omega.{arith}
 use lib.ListN.{get_or, length, take, drop, length-drop, length-take}
 use lib.Seq.{take_all, take-take}
 use Rattle.bench_text.specs.Text.{up_to, line_bytes, next_line, line_tokens}
 use Rattle.bench_text.proofs.Tokens.{up_to-take, up_to-length, line-token}
-use Rattle.tokens.specs.Kept.{kept}
+use Rattle.parts.specs.declared.Part.{Part}
+use Rattle.tokens.specs.Kept.{all_kept}
 use Rattle.tokens.proofs.Laws.{length-kept, get_or_kept, rest-cons}
 use Rattle.sentences.specs.Line.{TokensKept}
 
@@ -69,11 +74,29 @@ module _ (text : List ℕ) (at end : ℕ) (h : at ≤ length text) (found : end 
         sym (take-take (to - at) (end - at) (drop at text) less) ∙ ap (take (to - at)) line-part ∙ ap (λ n. take n (line_bytes text at)) size ∙ sym (up_to-take 35 (line_bytes text at))
 
 -- what is kept of a line lies within the text
-pub tokens-kept : (text : List ℕ) (at : ℕ) (parts : List ℕ) (count : ℕ) → length parts ≡ 32 → count ≤ 12 → kept parts count ≡ line_tokens text at → TokensKept text parts count
-tokens-kept text at parts count room few e =
+pub tokens-kept : (text : List ℕ) (at : ℕ) (parts : List Part) → length parts ≤ 12 → all_kept parts ≡ line_tokens text at → TokensKept text parts
+tokens-kept text at parts few e =
     record {
-      room = room;
       few = few;
-      some = λ i h. rw (← get_or_kept parts count i h, e) (line-token text at i (rw (← e, length-kept) h)).lies.some;
-      ends = λ i h. rw (← get_or_kept parts count i h, e) (line-token text at i (rw (← e, length-kept) h)).lies.ends;
+      some = λ i h. rw (← get_or_kept parts (length parts) i h, e) (line-token text at i (rw (← e, length-kept) h)).lies.some;
+      ends = λ i h. rw (← get_or_kept parts (length parts) i h, e) (line-token text at i (rw (← e, length-kept) h)).lies.ends;
     }
+
+-- ---- the library's search
+-- the bytes before the first of a kind are as many as its place tells
+pub up_to-position : (byte : ℕ) (xs : List ℕ) → position_or_len (λ x. eqb x byte) xs ≡ length (up_to byte xs)
+unfolding up_to
+up_to-position byte [] = refl
+up_to-position byte (x ∷ xs) = by-test (eqb x byte) (λ e. rw e) (λ e. rw (e, up_to-position byte xs) (omega arith))
+
+pub place-found : (byte : ℕ) (xs : List ℕ) (i : ℕ) → position (λ x. eqb x byte) xs ≡ Some i → i ≡ length (up_to byte xs)
+place-found byte xs i e =
+    by-test (ltb (position_or_len (λ x. eqb x byte) xs) (length xs))
+    (λ t. let f = rw t at e in (let g : position_or_len (λ x. eqb x byte) xs ≡ i = cc in sym g ∙ up_to-position byte xs))
+    (λ t. let f = rw t at e in absurd (cc))
+
+pub place-missing : (byte : ℕ) (xs : List ℕ) → position (λ x. eqb x byte) xs ≡ None → length (up_to byte xs) ≡ length xs
+place-missing byte xs e =
+    by-test (ltb (position_or_len (λ x. eqb x byte) xs) (length xs))
+    (λ t. let f = rw t at e in absurd (cc))
+    (λ t. omega (arith, ltb-false _ _ t, up_to-position byte xs, up_to-length byte xs))

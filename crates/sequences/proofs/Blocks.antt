@@ -40,12 +40,6 @@ few-more n found found' ends added few = record {
 
 -- where more sequences follow a block, it had 64
 module _ (base size total : ℕ) (before : base < total) (fits : size ≤ 64) (last : size < 64 → size ≡ total - base) where
-  pub some_sequences : 0 < size
-  some_sequences = elim (dec_le 64 size) [
-    | yes h ↦ omega arith
-    | no h ↦ (let all : size ≡ total - base = last (omega arith) in omega arith)
-  ]
-
   pub next_block : (found found' : Endings) (ends : Ends) → base % 64 ≡ 0 → Few base found → Added found ends found' → base + size < total → ((base + size) % 64 ≡ 0) × Few (base + size) found'
   next_block found found' ends whole few added h =
       let full : size ≡ 64 = elim (dec_le 64 size) [

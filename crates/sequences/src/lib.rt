@@ -8,11 +8,12 @@ ghost use Rattle.lists.specs.Field.{row_of};
 ghost use Rattle.model.specs.Inputs.{F, O, L};
 ghost use Rattle.model.specs.Values.{give_row, has_conflict};
 ghost use Rattle.lanes.specs.Lane.{bit, Room, Follows};
-ghost use Rattle.run.specs.Run.{Runnable};
+ghost use Rattle.run.specs.Run.{Runs};
 ghost use Rattle.sequences.specs.Ends.{PairRoom, PairsGiven, ListGiven, Started, Passed, Entered, Turned, BlockEnded, Added, Counted};
 
-use job::Job;
 use lanes::Lanes;
+use run::Setup;
+use unit::GivenFaults;
 
 // How many sequences end differing, clashing, surviving.
 #[derive(Clone, Copy)]
@@ -64,12 +65,10 @@ fn give_row(low: &[u8], high: &[u8], ones: u64, count: usize, state: &mut [u64])
     ensures { (lane : ℕ) (vs new : List ℕ) → lane < 64 → length vs ≡ count → has_conflict new ≡ false → (bit lane ones ≡ false → new ≡ low.now) → (bit lane ones ≡ true → new ≡ high.now)
         → Follows lane state.old vs → Follows lane state.new (give_row vs new) }
 {
-    let mut s: usize = 0;
-    while s < count {
+    for s in 0..count {
         let x = Lanes::all(low[s]).merge(ones, Lanes::all(high[s]));
         let y = lanes::read(state, s).give(x);
         lanes::store(state, s, y);
-        s += 1;
     }
 }
 
@@ -127,9 +126,7 @@ fn give_pairs(
     requires { (PairRoom count m times.now extras.now) × (count ≤ 256) × (base % 64 ≡ 0) × (Room count state.old) }
     ensures { PairsGiven times.now extras.now m u base count state.old state.new }
 {
-    let mut q = m;
-    while 0 < q {
-        q -= 1;
+    for q in (0..m).rev() {
         give_pair(times, extras, q, u, base, count, state);
     }
 }
@@ -174,30 +171,47 @@ fn start_block(
 
 // Unit u from the state there to the next state; the lanes in which an output opposes the fault-free one.
 fn pass_unit(
-    c: &[u8],
-    job: Job,
-    t: &[u8],
+    setup: &Setup,
     u: usize,
     free: &[u8],
-    pins: &[u16],
-    flops: &[usize],
-    outs: &[usize],
-    hits: &[u8],
-    masks: &[u64],
+    given: &GivenFaults,
     feed: &mut [u64],
     words: &mut [u64],
     state: &mut [u64],
 ) -> u64
-    requires { (Runnable c.now t.now job pins.now flops.now outs.now hits.now masks.now feed.old words.old state.old) × (u < L c.now t.now) × (L c.now t.now * O c.now ≤ length free.now) }
-    ensures { Passed c.now t.now free.now hits.now masks.now u state.old state.new result }
+    requires { (Runs setup.now given.now.hits.now given.now.masks.now feed.old words.old state.old) × (u < L setup.now.circuit.now setup.now.test.now) × (L setup.now.circuit.now setup.now.test.now * O setup.now.circuit.now ≤ length free.now) }
+    ensures { Passed setup.now.circuit.now setup.now.test.now free.now given.now.hits.now given.now.masks.now u state.old state.new result }
 {
-    let at = job.outputs * u;
-    let to = at + job.outputs;
+    let at = setup.job.outputs * u;
+    let to = at + setup.job.outputs;
     run::values_at(
-        c, pins, job.lines, job.inputs, t, u, state, hits, masks, feed, words,
+        setup.circuit,
+        setup.pins,
+        setup.job.lines,
+        setup.job.inputs,
+        setup.test,
+        u,
+        state,
+        given,
+        feed,
+        words,
     );
-    let found = run::opposing(c, outs, job.outputs, hits, masks, words, &free[at..to]);
-    unit::next_state(c, flops, job.flops, hits, masks, words, state);
+    let found = run::opposing(
+        setup.circuit,
+        setup.outs,
+        setup.job.outputs,
+        given,
+        words,
+        &free[at..to],
+    );
+    unit::next_state(
+        setup.circuit,
+        setup.flops,
+        setup.job.flops,
+        given,
+        words,
+        state,
+    );
     found
 }
 
@@ -225,9 +239,7 @@ fn enter_unit(
 
 // The lanes wanted of 64 sequences, from number `base` on, by how they end; no unit is run after all of them have.
 fn end_block(
-    c: &[u8],
-    job: Job,
-    t: &[u8],
+    setup: &Setup,
     free: &[u8],
     list: &[u8],
     times: &[usize],
@@ -235,32 +247,43 @@ fn end_block(
     m: usize,
     base: usize,
     wanted: u64,
-    pins: &[u16],
-    flops: &[usize],
-    outs: &[usize],
-    hits: &[u8],
-    masks: &[u64],
+    given: &GivenFaults,
     feed: &mut [u64],
     words: &mut [u64],
     state: &mut [u64],
 ) -> Ends
-    requires { (Runnable c.now t.now job pins.now flops.now outs.now hits.now masks.now feed.old words.old state.old) × (L c.now t.now * O c.now ≤ length free.now)
-        × (L c.now t.now * F c.now ≤ length list.now) × (PairRoom (F c.now) m times.now extras.now) × (base % 64 ≡ 0) }
-    ensures { BlockEnded c.now t.now free.now list.now times.now extras.now hits.now masks.now m base wanted result }
+    requires { (Runs setup.now given.now.hits.now given.now.masks.now feed.old words.old state.old) × (L setup.now.circuit.now setup.now.test.now * O setup.now.circuit.now ≤ length free.now)
+        × (L setup.now.circuit.now setup.now.test.now * F setup.now.circuit.now ≤ length list.now) × (PairRoom (F setup.now.circuit.now) m times.now extras.now) × (base % 64 ≡ 0) }
+    ensures { BlockEnded setup.now.circuit.now setup.now.test.now free.now list.now times.now extras.now given.now.hits.now given.now.masks.now m base wanted result }
 {
-    start_block(c, list, times, extras, m, base, job.flops, state);
+    start_block(
+        setup.circuit,
+        list,
+        times,
+        extras,
+        m,
+        base,
+        setup.job.flops,
+        state,
+    );
     let mut ends = Ends {
         differing: 0,
         clashing: 0,
         surviving: wanted,
     };
-    let mut u: usize = 0;
-    while u < job.units {
-        let opposing = pass_unit(
-            c, job, t, u, free, pins, flops, outs, hits, masks, feed, words, state,
+    for u in 0..setup.job.units {
+        let opposing = pass_unit(setup, u, free, given, feed, words, state);
+        let conflicts = enter_unit(
+            list,
+            times,
+            extras,
+            m,
+            u + 1,
+            setup.job.units,
+            base,
+            setup.job.flops,
+            state,
         );
-        u += 1;
-        let conflicts = enter_unit(list, times, extras, m, u, job.units, base, job.flops, state);
         ends = ends.turn(opposing, conflicts);
         if ends.surviving == 0 {
             return ends;
@@ -272,26 +295,20 @@ fn end_block(
 // How many of the 2^m sequences of m taken pairs end differing, clashing, surviving, with the fault that all lanes have. `free` has the fault-free
 // responses and `list` the state list, a row a unit; `times` the pairs' units; `extras` two rows a pair, for 0 and for 1.
 pub fn count_endings(
-    c: &[u8],
-    job: Job,
-    t: &[u8],
+    setup: &Setup,
     free: &[u8],
     list: &[u8],
     times: &[usize],
     extras: &[u8],
     m: usize,
-    pins: &[u16],
-    flops: &[usize],
-    outs: &[usize],
-    hits: &[u8],
-    masks: &[u64],
+    given: &GivenFaults,
     feed: &mut [u64],
     words: &mut [u64],
     state: &mut [u64],
 ) -> Endings
-    requires { (Runnable c.now t.now job pins.now flops.now outs.now hits.now masks.now feed.old words.old state.old) × (L c.now t.now * O c.now ≤ length free.now)
-        × (L c.now t.now * F c.now ≤ length list.now) × (PairRoom (F c.now) m times.now extras.now) }
-    ensures { Counted c.now t.now free.now list.now times.now extras.now hits.now masks.now m result }
+    requires { (Runs setup.now given.now.hits.now given.now.masks.now feed.old words.old state.old) × (L setup.now.circuit.now setup.now.test.now * O setup.now.circuit.now ≤ length free.now)
+        × (L setup.now.circuit.now setup.now.test.now * F setup.now.circuit.now ≤ length list.now) × (PairRoom (F setup.now.circuit.now) m times.now extras.now) }
+    ensures { Counted setup.now.circuit.now setup.now.test.now free.now list.now times.now extras.now given.now.hits.now given.now.masks.now m result }
 {
     let total: usize = 1 << m;
     let mut found = Endings {
@@ -299,13 +316,10 @@ pub fn count_endings(
         clashing: 0,
         surviving: 0,
     };
-    let mut base: usize = 0;
-    while base < total {
+    for base in (0..total).step_by(64) {
         let size = tally::block(total - base);
         let ends = end_block(
-            c,
-            job,
-            t,
+            setup,
             free,
             list,
             times,
@@ -313,17 +327,12 @@ pub fn count_endings(
             m,
             base,
             tally::first_lanes(size),
-            pins,
-            flops,
-            outs,
-            hits,
-            masks,
+            given,
             feed,
             words,
             state,
         );
         found = found.add(ends);
-        base += size;
     }
     found
 }

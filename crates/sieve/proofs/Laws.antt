@@ -1,15 +1,15 @@
 -- What the records and marks of a sieved area are, and a pack fault by fault.
 use mathlib.Core.Path.{◌≡◌, refl, ap, ◌∙◌}
 use mathlib.Core.Bool.{Bool, true, false, cond}
-use mathlib.Core.List.{List}
+use mathlib.Core.List.{List, ◌++◌}
 use mathlib.Core.Option
 use mathlib.Core.Option.{Option, none, some, or_else}
 use Prim.Native.Nat.{ℕ, suc, ◌+◌, ◌*◌, ◌<◌, ◌≤◌}
 use native.Mathlib.Omega.{arith}
 use native.Mathlib.Decide.{dec_le}
 use borrow.Author.Tests.{eq-eqb, ne_eqb, eqb-false}
-use lib.ListN.{get_or, length, set, length-set}
-use lib.Seq.{get_or-set_same, get_or-set_other}
+use Rattle.std.proofs.Common.{◌-◌, get_or, length, take, drop, add-zero, length-drop}
+use Rattle.std.proofs.lemmas.List.{length-take-le, get_or-take, get_or-drop, get_or_append_left, get_or-append_right}
 use Rattle.lists.specs.Scan.{first_pair}
 use Rattle.lists.specs.Field.{word16, bytes16, row_of}
 use Rattle.lists.proofs.Scan.{count_below-turn, first_pair-more}
@@ -77,46 +77,34 @@ module _ (c t : List ℕ) (units : ℕ) (most : units ≤ L c t) where
     behind = rw all at (records-behind r);
   }
 
--- ---- four bytes written one by one
-abbrev filled : List ℕ → ℕ → ℕ → ℕ → ℕ → ℕ → List ℕ
-filled few p a b d e = set (set (set (set few p a) (p + 1) b) (p + 2) d) (p + 3) e
+-- ---- four bytes copied, in place of four
+module _ (fs few part : List ℕ) (j s : ℕ) (inside : 4 * j + 4 ≤ length fs) (room : 4 * s + 4 ≤ length few) (same : part ≡ take (4 * j + 4 - 4 * j) (drop (4 * j) fs)) where
+  front : length (take (4 * s) few) ≡ 4 * s
+  front = length-take-le (4 * s) few (omega arith)
 
--- a byte below the one that is written
-under : (l : List ℕ) (i k v : ℕ) → k < i → get_or (set l i v) k 0 ≡ get_or l k 0
-under l i k v h = get_or-set_other l i k v 0 (λ e. omega arith)
+  long : length part ≡ 4
+  long = rw (same, length-take-le (4 * j + 4 - 4 * j) (drop (4 * j) fs) (rw length-drop (omega arith))) (omega arith)
 
-module _ (few : List ℕ) (p a b d e : ℕ) where
-  kept : (i : ℕ) → i < p → get_or (filled few p a b d e) i 0 ≡ get_or few i 0
-  kept i h = rw (under _ (p + 3) i e (omega arith), under _ (p + 2) i d (omega arith), under _ (p + 1) i b (omega arith), under few p i a h)
+  byte : (rest : List ℕ) (k : ℕ) → k < 4 → get_or (take (4 * s) few ++ (part ++ rest)) (4 * s + k) 0 ≡ get_or fs (4 * j + k) 0
+  byte rest k h =
+      let own : 4 * s + k - 4 * s ≡ k = omega arith in
+      get_or-append_right (take (4 * s) few) (part ++ rest) (4 * s) (4 * s + k) 0 front (omega arith) ∙ ap (λ i. get_or (part ++ rest) i 0) own
+      ∙ get_or_append_left part rest 0 k (omega (arith, long)) ∙ ap (λ row. get_or row k 0) same
+      ∙ get_or-take (4 * j + 4 - 4 * j) (drop (4 * j) fs) k 0 (omega arith) ∙ get_or-drop (4 * j) fs k 0
 
-  module _ (room : p + 4 ≤ length few) where
-    byte_0 : get_or (filled few p a b d e) p 0 ≡ a
-    byte_0 =
-        rw (under _ (p + 3) p e (omega arith), under _ (p + 2) p d (omega arith), under _ (p + 1) p b (omega arith))
-        (get_or-set_same few p a 0 (omega arith))
+  first_byte : (rest : List ℕ) → get_or (take (4 * s) few ++ (part ++ rest)) (4 * s) 0 ≡ get_or fs (4 * j) 0
+  first_byte rest = simp add-zero at (byte rest 0 (omega arith))
 
-    byte_1 : get_or (filled few p a b d e) (p + 1) 0 ≡ b
-    byte_1 =
-        rw (under _ (p + 3) (p + 1) e (omega arith), under _ (p + 2) (p + 1) d (omega arith))
-        (get_or-set_same (set few p a) (p + 1) b 0 (rw length-set (omega arith)))
+  kept : (rest : List ℕ) (i : ℕ) → i < 4 * s → get_or (take (4 * s) few ++ (part ++ rest)) i 0 ≡ get_or few i 0
+  kept rest i h = get_or_append_left (take (4 * s) few) (part ++ rest) 0 i (omega (arith, front)) ∙ get_or-take (4 * s) few i 0 h
 
-    byte_2 : get_or (filled few p a b d e) (p + 2) 0 ≡ d
-    byte_2 =
-        rw (under _ (p + 3) (p + 2) e (omega arith))
-        (get_or-set_same (set (set few p a) (p + 1) b) (p + 2) d 0 (simp length-set (omega arith)))
-
-    byte_3 : get_or (filled few p a b d e) (p + 3) 0 ≡ e
-    byte_3 = get_or-set_same (set (set (set few p a) (p + 1) b) (p + 2) d) (p + 3) e 0 (simp length-set (omega arith))
-
--- a fault copied
-pub copied : (fs few : List ℕ) (j s : ℕ) → 4 * s + 4 ≤ length few
-    → CopiedTo fs j s few (filled few (4 * s) (get_or fs (4 * j) 0) (get_or fs (4 * j + 1) 0) (get_or fs (4 * j + 2) 0) (get_or fs (4 * j + 3) 0))
-unfolding fault_at word16
-copied fs few j s room =
-    let keeps = kept few (4 * s) (get_or fs (4 * j) 0) (get_or fs (4 * j + 1) 0) (get_or fs (4 * j + 2) 0) (get_or fs (4 * j + 3) 0) in record {
-      here = rw (byte_0 few (4 * s) _ _ _ _ room, byte_1 few (4 * s) _ _ _ _ room, byte_2 few (4 * s) _ _ _ _ room, byte_3 few (4 * s) _ _ _ _ room);
-      others = λ i h. rw (keeps (4 * i) (omega arith), keeps (4 * i + 1) (omega arith), keeps (4 * i + 2) (omega arith), keeps (4 * i + 3) (omega arith));
-    }
+  -- a fault copied
+  pub copied : CopiedTo fs j s few (take (4 * s) few ++ (part ++ drop (4 * s + 4 - 4 * s) (drop (4 * s) few)))
+  unfolding fault_at word16
+  copied = record {
+    here = rw (first_byte _, byte _ 1 (omega arith), byte _ 2 (omega arith), byte _ 3 (omega arith));
+    others = λ i h. rw (kept _ (4 * i) (omega arith), kept _ (4 * i + 1) (omega arith), kept _ (4 * i + 2) (omega arith), kept _ (4 * i + 3) (omega arith));
+  }
 
 -- ---- a pack that has come to fault j: so many open faults, in order
 pub record Packing (fs area : List ℕ) (from most : ℕ) (few : List ℕ) (size j : ℕ) : Type 0 where

@@ -7,14 +7,13 @@ ghost use Rattle.model.specs.Inputs.{L, fault_at, fault_count};
 ghost use Rattle.model.specs.Accepted.{ValidInputs};
 ghost use Rattle.faults.specs.Given.{Blank};
 ghost use Rattle.record.specs.Record.{verdict_of};
-ghost use Rattle.stages.specs.Stages.{Tabled, Standing};
+ghost use Rattle.stages.specs.Stages.{IsTabled, Standing};
 ghost use Rattle.sieve.specs.Sieve.{early, noted, WrittenTo, NotedTo, SievedAll, CopiedTo, Packed};
 
-use job::Job;
-use places::Places;
 use plain::Firsts;
 use record::Verdict;
-use stages::{Feed, Hits, Masks, State, Words};
+use run::Setup;
+use stages::{LaneFaults, Space};
 
 // So many units come first. In a short test none do: its faults are run to the end at once.
 fn early_units(units: usize) -> usize
@@ -26,118 +25,79 @@ fn early_units(units: usize) -> usize
     8
 }
 
-// Verdict 1 where the lane has a place, else the mark.
-fn early_verdict(firsts: Firsts, lane: usize, moments: &Places, lines: &Places) -> Verdict
+// Verdict 1 where the lane has a place, else the mark of an open fault, a record of zeros: the area is lent, and each fault has a record in it.
+fn early_verdict(firsts: &Firsts, lane: usize) -> Verdict
     requires { lane < 64 }
-    ensures { verdict_of result ≡ noted firsts lane moments.now lines.now }
+    ensures { verdict_of result ≡ noted firsts.now lane firsts.now.times firsts.now.lines }
 {
     if tally::has_lane(firsts.found, lane) {
-        return record::placed(1, moments[lane], lines[lane]);
+        return record::placed(1, firsts.times[lane], firsts.lines[lane]);
     }
     record::placed(0, 0, 0)
 }
 
 // The records of a batch, as its lanes have found them.
-fn write_early(
-    from: usize,
-    count: usize,
-    firsts: Firsts,
-    moments: &Places,
-    lines: &Places,
-    res: &mut [u8],
-)
+fn write_early(from: usize, count: usize, firsts: &Firsts, res: &mut [u8])
     requires { (count ≤ 64) × (16 * (from + count) ≤ length res.old) }
-    ensures { NotedTo from count firsts moments.now lines.now res.old res.new }
+    ensures { NotedTo from count firsts.now firsts.now.times firsts.now.lines res.old res.new }
 {
-    let mut lane: usize = 0;
-    while lane < count {
+    for lane in 0..count {
         let at = 16 * (from + lane);
-        let verdict = early_verdict(firsts, lane, moments, lines);
+        let verdict = early_verdict(firsts, lane);
         record::write_record(&mut res[at..], verdict);
-        lane += 1;
     }
 }
 
 // A batch over the first so many units: its places, and then its records.
 fn sieve_batch(
-    c: &[u8],
-    job: Job,
-    t: &[u8],
+    setup: &Setup,
     fs: &[u8],
     from: usize,
     count: usize,
     units: usize,
     free: &[u8],
-    pins: &[u16],
-    flops: &[usize],
-    outs: &[usize],
-    hits: &mut Hits,
-    masks: &mut Masks,
-    feed: &mut Feed,
-    words: &mut Words,
-    state: &mut State,
+    given: &mut LaneFaults,
+    space: &mut Space,
     res: &mut [u8],
 )
-    requires { (Tabled c.now t.now job pins.now flops.now outs.now) × (Standing c.now t.now free.now) × (Blank hits.old masks.old)
-        × (ValidInputs c.now t.now 0 32768 fs.now) × (count ≤ 64) × (from + count ≤ fault_count fs.now) × (units ≤ L c.now t.now) × (16 * fault_count fs.now ≤ length res.old) }
-    ensures { (Blank hits.new masks.new) × (WrittenTo (λ j. early c.now t.now units (fault_at fs.now j)) from (from + count) res.old res.new) }
+    requires { (IsTabled setup.now) × (Standing setup.now.circuit.now setup.now.test.now free.now) × (Blank given.old.hits given.old.masks)
+        × (ValidInputs setup.now.circuit.now setup.now.test.now 0 32768 fs.now) × (count ≤ 64) × (from + count ≤ fault_count fs.now) × (units ≤ L setup.now.circuit.now setup.now.test.now) × (16 * fault_count fs.now ≤ length res.old) }
+    ensures { (Blank given.new.hits given.new.masks) × (WrittenTo (λ j. early setup.now.circuit.now setup.now.test.now units (fault_at fs.now j)) from (from + count) res.old res.new) }
 {
-    let mut moments = [0usize; 64];
-    let mut lines = [0usize; 64];
     let firsts = places::find_places(
-        c,
-        job,
-        t,
+        setup,
         fs,
         from,
         count,
         units,
         free,
-        pins,
-        flops,
-        outs,
-        hits,
-        masks,
-        feed,
-        words,
-        state,
-        &mut moments,
-        &mut lines,
+        &mut given.hits,
+        &mut given.masks,
+        &mut space.feed,
+        &mut space.words,
+        &mut space.state,
     );
-    write_early(from, count, firsts, &moments, &lines, res);
+    write_early(from, count, &firsts, res);
 }
 
 // The whole list, batch by batch.
 pub fn sieve(
-    c: &[u8],
-    job: Job,
-    t: &[u8],
+    setup: &Setup,
     fs: &[u8],
     free: &[u8],
-    pins: &[u16],
-    flops: &[usize],
-    outs: &[usize],
-    hits: &mut Hits,
-    masks: &mut Masks,
-    feed: &mut Feed,
-    words: &mut Words,
-    state: &mut State,
+    given: &mut LaneFaults,
+    space: &mut Space,
     res: &mut [u8],
 )
-    requires { (Tabled c.now t.now job pins.now flops.now outs.now) × (Standing c.now t.now free.now) × (Blank hits.old masks.old)
-        × (ValidInputs c.now t.now 0 32768 fs.now) × (16 * fault_count fs.now ≤ length res.old) }
-    ensures { (Blank hits.new masks.new) × (SievedAll c.now t.now fs.now res.old res.new) }
+    requires { (IsTabled setup.now) × (Standing setup.now.circuit.now setup.now.test.now free.now) × (Blank given.old.hits given.old.masks)
+        × (ValidInputs setup.now.circuit.now setup.now.test.now 0 32768 fs.now) × (16 * fault_count fs.now ≤ length res.old) }
+    ensures { (Blank given.new.hits given.new.masks) × (SievedAll setup.now.circuit.now setup.now.test.now fs.now res.old res.new) }
 {
     let count = fs.len() / 4;
-    let units = early_units(job.units);
-    let mut from: usize = 0;
-    while from < count {
+    let units = early_units(setup.job.units);
+    for from in (0..count).step_by(64) {
         let size = tally::block(count - from);
-        sieve_batch(
-            c, job, t, fs, from, size, units, free, pins, flops, outs, hits, masks, feed, words,
-            state, res,
-        );
-        from += size;
+        sieve_batch(setup, fs, from, size, units, free, given, space, res);
     }
 }
 
@@ -155,10 +115,7 @@ fn copy_fault(fs: &[u8], j: usize, few: &mut [u8], s: usize)
 {
     let at = 4 * j;
     let place = 4 * s;
-    few[place] = fs[at];
-    few[place + 1] = fs[at + 1];
-    few[place + 2] = fs[at + 2];
-    few[place + 3] = fs[at + 3];
+    few[place..place + 4].copy_from_slice(&fs[at..at + 4]);
 }
 
 // The open faults from one on, as many as there are lanes, as a list of their own; `result` has the records and marks of the list's first `most` faults.
@@ -166,17 +123,15 @@ pub fn next_pack(fs: &[u8], res: &[u8], from: usize, most: usize, few: &mut [u8]
     requires { (from ≤ most) × (4 * most ≤ length fs.now) × (16 * most ≤ length res.now) × (256 ≤ length few.old) }
     ensures { Packed fs.now res.now from most few.new result }
 {
-    let mut size: usize = 0;
-    let mut j = from;
-    while j < most {
+    let mut size = 0;
+    for j in from..most {
         if size == 64 {
-            break;
+            return Pack { size, to: j };
         }
         if res[16 * j] == 0 {
             copy_fault(fs, j, few, size);
             size += 1;
         }
-        j += 1;
     }
-    Pack { size, to: j }
+    Pack { size, to: most }
 }

@@ -10,7 +10,9 @@ ghost use Rattle.faults.specs.Given.{Blank};
 ghost use Rattle.job.specs.Job.{answer_of, JobOf};
 ghost use Rattle.unit.specs.Unit.{Stuck, MaskRoom};
 
-use job::{Job, JobCheck, Outcome};
+use job::{Job, Outcome};
+use run::Setup;
+use unit::GivenFaults;
 
 // The fault of the list, if there is one, in all lanes.
 fn give_only(fs: &[u8], hits: &mut [u8], masks: &mut [u64])
@@ -41,9 +43,27 @@ fn respond(c: &[u8], job: Job, t: &[u8], fs: &[u8], res: &mut [u8])
     circuit::list_tables(c, job.lines, &mut pins, &mut flops, &mut outs);
     give_only(fs, &mut hits, &mut masks);
     run::power_up(c, job.flops, &mut state);
+    let setup = Setup {
+        circuit: c,
+        test: t,
+        job,
+        pins: &pins,
+        flops: &flops,
+        outs: &outs,
+    };
     run::write_run(
-        c, job, t, 0, &pins, &flops, &outs, &hits, &masks, &mut feed, &mut words, &mut state, 0,
-        res, &mut none,
+        &setup,
+        0,
+        &GivenFaults {
+            hits: &hits,
+            masks: &masks,
+        },
+        &mut feed,
+        &mut words,
+        &mut state,
+        0,
+        res,
+        &mut none,
     );
 }
 
@@ -59,12 +79,7 @@ pub fn simulate(
     ensures writes { res.new ≡ simulate_area circuit.now test.now faults.now (length work.old) res.old }
     ensures keeps { work.new ≡ work.old }
 {
-    match job::check_simulate(circuit, test, faults, work.len(), res.len()) {
-        JobCheck::Broken { rule, at } => Outcome::Refused { rule, at },
-        JobCheck::Ready(job) => {
-            let size = job.units * job.outputs;
-            respond(circuit, job, test, faults, res);
-            Outcome::Done(size)
-        }
-    }
+    let job = job::check_simulate(circuit, test, faults, work.len(), res.len())?;
+    respond(circuit, job, test, faults, res);
+    Ok(job.units * job.outputs)
 }

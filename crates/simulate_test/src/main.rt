@@ -4,9 +4,8 @@
 // refused all of both areas.
 #![tactic(auto)]
 
-ghost use Rattle.std.specs.Prelude.{◌+◌, ◌<◌, ◌≤◌, length};
+ghost use Rattle.std.specs.Prelude.{◌<◌, length, IfSome};
 
-use job::Outcome;
 use printing::BLANK;
 
 // How long the areas of a job may be.
@@ -21,14 +20,9 @@ fn print_done(rt: &impl Print, n: usize, res: &[u8; RESULT]) {
         printing::text(rt, b"TOO MANY\n");
         return;
     }
-    let area = &res[..];
-    printing::values(rt, &area[0..n]);
-    printing::kept_or_changed(rt, printing::kept(&area[n..], BLANK));
-}
-
-// Takes the arrays whole, so that nothing is to be shown of their lengths after a part was lent.
-fn print_refused(rt: &impl Print, rule: u8, at: usize, work: &[u8; WORK], res: &[u8; RESULT]) {
-    printing::refused_job(rt, rule, at, work, res);
+    let (responses, rest) = res.split_at(n);
+    printing::values(rt, responses);
+    printing::kept_or_changed(rt, printing::kept(rest, BLANK));
 }
 
 fn run(rt: &impl Print, circuit: &[u8], test: &[u8], faults: &[u8], room: usize, size: usize) {
@@ -42,53 +36,37 @@ fn run(rt: &impl Print, circuit: &[u8], test: &[u8], faults: &[u8], room: usize,
         printing::text(rt, b"the result area is too long\n");
         return;
     }
-    match simulate::simulate(
+    let outcome = simulate::simulate(
         circuit,
         test,
         faults,
-        &mut work[0..room],
-        &mut result[0..size],
-    ) {
-        Outcome::Done(n) => print_done(rt, n, &result),
-        Outcome::Refused { rule, at } => print_refused(rt, rule, at, &work, &result),
-    }
-}
-
-// The job that begins here; where the next one begins.
-fn run_job(rt: &impl Print, jobs: &[u8], at: usize) -> usize
-    requires { at + 10 ≤ length jobs.now }
-    ensures { (at < result) × (result ≤ length jobs.now) }
-{
-    let from = at + 10;
-    let test = from + basics::word_at(jobs, at);
-    let faults = test + basics::word_at(jobs, at + 2);
-    let end = faults + basics::word_at(jobs, at + 4);
-    let room = basics::word_at(jobs, at + 6);
-    let size = basics::word_at(jobs, at + 8);
-    if jobs.len() < end {
-        printing::cut_off(rt);
-        return jobs.len();
-    }
-    run(
-        rt,
-        &jobs[from..test],
-        &jobs[test..faults],
-        &jobs[faults..end],
-        room,
-        size,
+        &mut work[..room],
+        &mut result[..size],
     );
-    end
+    match outcome {
+        Ok(n) => print_done(rt, n, &result),
+        Err(refusal) => printing::refused_job(rt, refusal, &work, &result),
+    }
 }
 
-fn run_jobs(rt: &impl Print, jobs: &[u8]) {
-    let mut at: usize = 0;
-    while at + 10 <= jobs.len() {
-        at = run_job(rt, jobs, at);
-    }
+// The job that begins here; what is behind it, or none where it is cut off. Bytes that are too few for a job's five numbers are let go.
+fn run_job<'a>(rt: &impl Print, jobs: &'a [u8]) -> Option<&'a [u8]>
+    ensures { 0 < length jobs.now → IfSome result (λ rest. length rest.now < length jobs.now) }
+{
+    let Some((head, rest)) = jobs.split_at_checked(10) else {
+        return Some(b"");
+    };
+    let (circuit, rest) = rest.split_at_checked(basics::word_at(head, 0))?;
+    let (test, rest) = rest.split_at_checked(basics::word_at(head, 2))?;
+    let (faults, rest) = rest.split_at_checked(basics::word_at(head, 4))?;
+    let room = basics::word_at(head, 6);
+    let size = basics::word_at(head, 8);
+    run(rt, circuit, test, faults, room, size);
+    Some(rest)
 }
 
 fn main(rt: HostRuntime) {
     let mut jobs: [u8; 262144] = printing::zeros();
     let size = printing::read(&rt, b"jobs.dat", &mut jobs);
-    run_jobs(&rt, &jobs[..size]);
+    printing::run_jobs(&rt, &jobs[..size], |jobs| run_job(&rt, jobs));
 }

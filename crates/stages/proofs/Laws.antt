@@ -1,10 +1,12 @@
 -- What the answers of stages 2 to 4 say of a fault's verdict.
+use Rattle.std.specs.Prelude.{Option, Some, None}
+use Rattle.std.proofs.Common.{sym, ◌∙◌}
 use mathlib.Core.Path.{◌≡◌}
 use mathlib.Core.List.{List}
-use mathlib.Core.Option.{Option, none, some, or_else}
+use mathlib.Core.Option.{none, some, or_else}
+use mathlib.Core.Option.{Option as Optional}
 use Prim.Native.Nat.{ℕ, ◌*◌, ◌-◌, ◌/◌, ◌%◌, ◌<◌, ◌≤◌}
 use native.Mathlib.Omega.{arith}
-use native.Mathlib.Decide.{dec_le}
 use native.Mathlib.Nat.{mul-le-mul, mod-lt}
 use borrow.Author.Tests.{lt-ltb}
 use lib.ListN.{length, get_or, drop, take}
@@ -25,7 +27,8 @@ use Rattle.run.specs.Run.{Runnable}
 use Rattle.run.proofs.Laws.{runnable}
 use Rattle.pending.specs.Pending.{Responses, OpenUnits}
 use Rattle.expand.specs.declared.Walk.{Walk}
-use Rattle.expand.specs.Expand.{Walked, Expanded}
+use Rattle.expand.specs.Expand.{Before, Walked, Expanded}
+use Rattle.expand.proofs.Steps.{by-option, one-only}
 use Rattle.expand.proofs.Result.{stage3-met, stage3-none, stage4-met, stage4-none, list-rows}
 use Rattle.unit.specs.Unit.{Stuck}
 use Rattle.fault.specs.Fault.{PlainTables, Traced}
@@ -63,9 +66,6 @@ module _ {c t : List ℕ} {job : Job} {pins flops outs : List ℕ} (g : Tabled c
       → Runnable c t job pins flops outs hits masks feed words state
   runs h m f w s = runnable g.circuit g.test g.sizes g.tables (omega arith) (omega arith) (omega arith) (omega arith) (omega arith)
 
-  pub extra-room : (n : ℕ) → n ≡ 6144 → 24 * F c ≤ n
-  extra-room n e = omega (arith, g.circuit.flip_flops)
-
   pub pair-rows : (m n : ℕ) → m ≤ 12 → n ≡ 6144 → 2 * m * F c ≤ n
   pair-rows m n h e = let few : 2 * m ≤ 24 = omega arith in omega (arith, mul-le-mul few g.circuit.flip_flops)
 
@@ -89,7 +89,7 @@ module _ {c t hits masks states work : List ℕ} (traced : Traced c t hits masks
       → PlainTables c t work (take (length work - job.units * job.outputs) (drop (job.units * job.outputs) work)) states f
   tables-lent {job = job} of stuck = rw (lent work (job.units * job.outputs), of.units, of.outputs) (traced.tables f (stuck 0 (omega arith)))
 
-else_last : (a b : Option Verdict) → a else b ≡ none → b ≡ none
+else_last : (a b : Optional Verdict) → a else b ≡ none → b ≡ none
 unfolding or_else
 else_last none b e = e
 else_last (some v) b e = cc
@@ -108,15 +108,17 @@ lists_of {c} {t} f p k test before ready took = record {
   clear = λ b u h. sequence_clear c t f test ready.fault (last_none c t f before) p k b u h;
 }
 
--- by another name of the end
-pub deciding_as : {walk : Walk} {none none' e : ℕ} → none ≡ none' → Deciding walk none e → Deciding walk none' e
-deciding_as same d = rw same at d
+-- a pair that decides is one that the walk has met
+pub decided-inside : {walk : Walk} {r : Option ℕ} {n : ℕ} → Deciding walk r → Before n walk → (e : ℕ) → r ≡ Some e → e < n
+decided-inside {walk = walk} decides met e h = by-option walk.both
+    (λ none. met.opposed e (sym (decides.fourth none) ∙ h))
+    (λ p same. let third = decides.third p same in let here : p ≡ e = cc in rw here at (met.both p same))
 
 -- ---- stages 3 and 4, of a fault that stages 1 and 2 leave open
-module _ {c t free faulty states list hits masks : List ℕ} {left e : ℕ} {walk : Walk} (f : Fault) (stuck : (lane : ℕ) → lane < 64 → Stuck lane hits masks f) (fault : ValidFault c f)
+module _ {c t free faulty states list hits masks : List ℕ} {left : ℕ} {r : Option ℕ} {walk : Walk} (f : Fault) (stuck : (lane : ℕ) → lane < 64 → Stuck lane hits masks f) (fault : ValidFault c f)
     (open_first : stage1 c t f ≡ none) (open-second : stage2 c t f ≡ none) (tables : PlainTables c t free faulty states f) (above : OpenUnits c t f left)
-    (expanded : Expanded c t free states hits masks left list walk) (decides : Deciding walk (L c t * F c) e) where
-  walked : Walked c t f (L c t * F c) (L c t * F c) list walk
+    (expanded : Expanded c t free states hits masks left list walk) (decides : Deciding walk r) where
+  walked : Walked c t f (L c t * F c) list walk
   walked = expanded.walked f record {
     stuck = stuck;
     fault = fault;
@@ -125,27 +127,23 @@ module _ {c t free faulty states list hits masks : List ℕ} {left e : ℕ} {wal
     above = above;
   }
 
-  pub before_2 : e < L c t * F c → before_stage5 c t f ≡ some (placed 2 (e / F c) (flip_flop_line c (e % F c)))
+  pub before_2 : (e : ℕ) → r ≡ Some e → before_stage5 c t f ≡ some (placed 2 (e / F c) (flip_flop_line c (e % F c)))
   unfolding before_stage5 or_else
-  before_2 h = elim (dec_le (L c t * F c) walk.both) [
-    | yes g ↦ (let same = decides.fourth g in rw (open_first, open-second, stage3-none c t f list walk walked g, stage4-met c t f list walk walked g (rw (← same) h), same))
-    | no g ↦ (let same = decides.third (omega arith) in rw (open_first, open-second, stage3-met c t f list walk walked (omega arith), same))
-  ]
+  before_2 e h = by-option walk.both
+      (λ g. rw (open_first, open-second, stage3-none c t f list walk walked expanded.met g, stage4-met c t f list walk walked expanded.met g e (sym (decides.fourth g) ∙ h)))
+      (λ p g. let third = decides.third p g in let here : p ≡ e = cc in rw (open_first, open-second, stage3-met c t f list walk walked expanded.met e (rw here at g)))
 
   -- neither gives a verdict
-  module _ (none-met : L c t * F c ≤ e) where
-    none_both : L c t * F c ≤ walk.both
-    none_both = elim (dec_le (L c t * F c) walk.both) [
-      | yes g ↦ g
-      | no g ↦ absurd (let z : ⊥ = omega (arith, decides.third (omega arith)) in z)
-    ]
+  module _ (none-met : r ≡ None) where
+    none_both : walk.both ≡ None
+    none_both = by-option walk.both (λ g. g) (λ p g. one-only (decides.third p g) none-met)
 
-    none-opposed : L c t * F c ≤ walk.opposed
-    none-opposed = rw (← (decides.fourth none_both)) none-met
+    none-opposed : walk.opposed ≡ None
+    none-opposed = sym (decides.fourth none_both) ∙ none-met
 
     pub before-none : before_stage5 c t f ≡ none
     unfolding before_stage5 or_else
-    before-none = rw (open_first, open-second, stage3-none c t f list walk walked none_both, stage4-none c t f list walk walked none_both none-opposed)
+    before-none = rw (open_first, open-second, stage3-none c t f list walk walked expanded.met none_both, stage4-none c t f list walk walked expanded.met none_both none-opposed)
 
     pub prepared : Prepared c t free states list hits masks left f
     prepared = record {
@@ -153,6 +151,6 @@ module _ {c t free faulty states list hits masks : List ℕ} {left e : ℕ} {wal
       fault = fault;
       plain = tables.plain;
       frees = tables.frees;
-      rows = list-rows c t f list walk walked none_both none-opposed;
+      rows = list-rows c t f list walk walked expanded.met none_both none-opposed;
       above = above;
     }

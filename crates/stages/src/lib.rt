@@ -7,46 +7,56 @@ ghost use Rattle.std.specs.Prelude.{◌≡◌, ◌*◌, ◌/◌, ◌%◌, ◌<�
 ghost use Rattle.model.specs.Inputs.{O, L, Fault};
 ghost use Rattle.model.specs.Grade.{placed, before_stage5, grade};
 ghost use Rattle.record.specs.Record.{verdict_of};
-ghost use Rattle.run.specs.Run.{Runnable};
+ghost use Rattle.run.specs.Run.{Runs};
 ghost use Rattle.take.specs.Take.{Prepared};
-ghost use Rattle.stages.specs.Stages.{Gradable, Standing, RowRoom, OpenFrom, Deciding, Middling, Graded};
+ghost use Rattle.stages.specs.Stages.{Grades, Standing, RowRoom, OpenFrom, Deciding, Middling, Graded};
 
 use expand::Walk;
 use job::Job;
 use record::Verdict;
+use run::Setup;
+use trial::Pair;
+use unit::GivenFaults;
 
-// The arrays that a call makes once and lends to every stage of every fault. Of the faults in the lanes: a byte a line, and 256 rows of five masks,
-// two words each.
-pub type Hits = [u8; 4096];
+// The 32 pairs of a word.
+pub type Trials = [Pair; 32];
 
-pub type Masks = [u64; 2560];
-
-// Two words for each input, line and flip-flop.
-pub type Feed = [u64; 512];
-
-pub type Words = [u64; 8192];
-
-pub type State = [u64; 512];
-
-// The units, or the flip-flops, of the 32 pairs of a word.
-pub type Trials = [usize; 32];
-
-// A row of state bits; Nout of every unit and behind the last.
+// A row of state bits.
 pub type Row = [u8; 256];
 
-pub type Counts = [usize; 1025];
-
-// Of up to 12 taken pairs the unit, and two extras.
+// Of up to 12 taken pairs the unit.
 pub type Times = [usize; 12];
 
-pub type Extras = [u8; 6144];
-
-// What stages 2 to 4 come to: at how many units Nout is above 0, and if there are any the position of the pair that gives verdict 2, or the end
-// of the walk over the pairs.
+// The faults in the lanes: a byte a line, and 256 rows of five masks, two words each.
 #[derive(Clone, Copy)]
-pub struct Middle {
-    pub left: usize,
-    pub pair: usize,
+pub struct LaneFaults {
+    pub hits: [u8; 4096],
+    pub masks: [u64; 2560],
+}
+
+// What a call makes once and lends to every stage of every fault: two words for each input, line and flip-flop; the pairs of a word; a row; Nout of
+// every unit and behind the last; and of the taken pairs units and extras.
+#[derive(Clone, Copy)]
+pub struct Space {
+    pub feed: [u64; 512],
+    pub words: [u64; 8192],
+    pub state: [u64; 512],
+    pub pairs: Trials,
+    pub row: Row,
+    pub nout: [usize; 1025],
+    pub times: Times,
+    pub extras: [u8; 6144],
+}
+
+// What stages 2 to 4 come to.
+#[derive(Clone, Copy)]
+pub enum Middle {
+    // Nout is 0 at every unit: nothing is left to show.
+    Nothing,
+    // The position of the pair that gives verdict 2.
+    Decided(usize),
+    // They give no verdict, and Nout is above 0 at so many units.
+    Open(usize),
 }
 
 // How many units there are before the first with Nout 0, from the responses without and with the fault. How many places were compared for it,
@@ -59,14 +69,11 @@ fn open_units(job: Job, free: &[u8], faulty: &[u8], nout: &mut [usize]) -> usize
     pending::open_units(job.units, nout)
 }
 
-// The position of the pair that gives verdict 2, `none` where there is no such pair: stage 3's, or else stage 4's.
-fn deciding(walk: Walk, none: usize) -> usize
-    ensures { Deciding walk none result }
+// The position of the pair that gives verdict 2: stage 3's, or else stage 4's.
+fn deciding(walk: Walk) -> Option<usize>
+    ensures { Deciding walk result }
 {
-    if walk.both < none {
-        return walk.both;
-    }
-    walk.opposed
+    walk.both.or(walk.opposed)
 }
 
 // Verdict 2, with the unit and the flip-flop's line of the pair at position e.
@@ -79,166 +86,152 @@ fn at_pair(size: usize, flops: &[usize], e: usize) -> Verdict
 
 // Stages 5 and 6: the plan's pairs that are taken, how their sequences end, and the verdict.
 fn last_stages(
-    c: &[u8],
-    job: Job,
-    t: &[u8],
+    setup: &Setup,
     free: &[u8],
     states: &[u8],
     list: &[u8],
     left: usize,
     plan: &[u8],
     k: usize,
-    pins: &[u16],
-    flops: &[usize],
-    outs: &[usize],
-    hits: &Hits,
-    masks: &Masks,
-    feed: &mut Feed,
-    words: &mut Words,
-    state: &mut State,
-    units: &mut Trials,
-    bits: &mut Trials,
-    times: &mut Times,
-    extras: &mut Extras,
+    given: &LaneFaults,
+    space: &mut Space,
 ) -> Verdict
-    requires { (Gradable c.now t.now plan.now k job pins.now flops.now outs.now) × (L c.now t.now * O c.now ≤ length free.now)
-        × (RowRoom c.now t.now states.now) × (RowRoom c.now t.now list.now) }
-    ensures { (f : Fault) → Prepared c.now t.now free.now states.now list.now hits.now masks.now left f
-        → before_stage5 c.now t.now f ≡ none → verdict_of result ≡ grade c.now t.now f plan.now k }
+    requires { (Grades setup.now plan.now k) × (L setup.now.circuit.now setup.now.test.now * O setup.now.circuit.now ≤ length free.now)
+        × (RowRoom setup.now.circuit.now setup.now.test.now states.now) × (RowRoom setup.now.circuit.now setup.now.test.now list.now) }
+    ensures { (f : Fault) → Prepared setup.now.circuit.now setup.now.test.now free.now states.now list.now given.now.hits given.now.masks left f
+        → before_stage5 setup.now.circuit.now setup.now.test.now f ≡ none → verdict_of result ≡ grade setup.now.circuit.now setup.now.test.now f plan.now k }
 {
     let m = take::take_pairs(
-        c, job, t, free, states, list, left, plan, k, pins, flops, outs, hits, masks, feed, words,
-        state, units, bits, times, extras,
+        setup,
+        free,
+        states,
+        list,
+        left,
+        plan,
+        k,
+        &GivenFaults {
+            hits: &given.hits,
+            masks: &given.masks,
+        },
+        &mut space.feed,
+        &mut space.words,
+        &mut space.state,
+        &mut space.times,
+        &mut space.extras,
     );
     let ends = sequences::count_endings(
-        c, job, t, free, list, times, extras, m, pins, flops, outs, hits, masks, feed, words, state,
+        setup,
+        free,
+        list,
+        &space.times,
+        &space.extras,
+        m,
+        &GivenFaults {
+            hits: &given.hits,
+            masks: &given.masks,
+        },
+        &mut space.feed,
+        &mut space.words,
+        &mut space.state,
     );
     fault::conclude(
-        c, job, t, free, k, m, ends, pins, flops, outs, hits, masks, feed, words, state,
+        setup,
+        free,
+        k,
+        m,
+        ends,
+        &GivenFaults {
+            hits: &given.hits,
+            masks: &given.masks,
+        },
+        &mut space.feed,
+        &mut space.words,
+        &mut space.state,
     )
 }
 
 // Stages 2 to 4, from the tables of the fault's plain run: the responses without and with the fault, and the states.
 pub fn middle_stages(
-    c: &[u8],
-    job: Job,
-    t: &[u8],
+    setup: &Setup,
     free: &[u8],
     faulty: &[u8],
     states: &[u8],
-    pins: &[u16],
-    flops: &[usize],
-    outs: &[usize],
-    hits: &[u8],
-    masks: &[u64],
+    given: &GivenFaults,
     feed: &mut [u64],
     words: &mut [u64],
     state: &mut [u64],
-    units: &mut Trials,
-    bits: &mut Trials,
+    pairs: &mut Trials,
     row: &mut Row,
     list: &mut [u8],
     nout: &mut [usize],
 ) -> Middle
-    requires { (Runnable c.now t.now job pins.now flops.now outs.now hits.now masks.now feed.old words.old state.old)
-        × (L c.now t.now * O c.now ≤ length free.now) × (L c.now t.now * O c.now ≤ length faulty.now)
-        × (RowRoom c.now t.now states.now) × (RowRoom c.now t.now list.old) × (L c.now t.now < length nout.old) }
-    ensures { Middling c.now t.now free.now faulty.now states.now list.new hits.now masks.now nout.new result }
+    requires { (Runs setup.now given.now.hits.now given.now.masks.now feed.old words.old state.old)
+        × (L setup.now.circuit.now setup.now.test.now * O setup.now.circuit.now ≤ length free.now) × (L setup.now.circuit.now setup.now.test.now * O setup.now.circuit.now ≤ length faulty.now)
+        × (RowRoom setup.now.circuit.now setup.now.test.now states.now) × (RowRoom setup.now.circuit.now setup.now.test.now list.old) × (L setup.now.circuit.now setup.now.test.now < length nout.old) }
+    ensures { Middling setup.now.circuit.now setup.now.test.now free.now faulty.now states.now list.new given.now.hits.now given.now.masks.now nout.new result }
 {
-    let left = open_units(job, free, faulty, nout);
+    let left = open_units(setup.job, free, faulty, nout);
     if left == 0 {
-        return Middle { left, pair: 0 };
+        return Middle::Nothing;
     }
     let walk = expand::expand(
-        c, job, t, free, states, left, pins, flops, outs, hits, masks, feed, words, state, units,
-        bits, row, list,
+        setup, free, states, left, given, feed, words, state, pairs, row, list,
     );
-    let pair = deciding(walk, job.flops * job.units);
-    Middle { left, pair }
+    match deciding(walk) {
+        Some(e) => Middle::Decided(e),
+        None => Middle::Open(left),
+    }
 }
 
 // The verdict of stages 2 to 6. The work area begins with the fault-free responses, and still does afterwards; behind them it then has the fault's.
 pub fn later_stages(
-    c: &[u8],
-    job: Job,
-    t: &[u8],
+    setup: &Setup,
     plan: &[u8],
     k: usize,
-    pins: &[u16],
-    flops: &[usize],
-    outs: &[usize],
-    hits: &Hits,
-    masks: &Masks,
-    feed: &mut Feed,
-    words: &mut Words,
-    state: &mut State,
-    units: &mut Trials,
-    bits: &mut Trials,
-    row: &mut Row,
+    given: &LaneFaults,
+    space: &mut Space,
     states: &mut [u8],
     list: &mut [u8],
-    nout: &mut Counts,
-    times: &mut Times,
-    extras: &mut Extras,
     work: &mut [u8],
 ) -> Verdict
-    requires { (Gradable c.now t.now plan.now k job pins.now flops.now outs.now) × (Standing c.now t.now work.old)
-        × (RowRoom c.now t.now states.old) × (RowRoom c.now t.now list.old) }
-    ensures { Graded c.now t.now plan.now k hits.now masks.now work.new result }
+    requires { (Grades setup.now plan.now k) × (Standing setup.now.circuit.now setup.now.test.now work.old)
+        × (RowRoom setup.now.circuit.now setup.now.test.now states.old) × (RowRoom setup.now.circuit.now setup.now.test.now list.old) }
+    ensures { Graded setup.now.circuit.now setup.now.test.now plan.now k given.now.hits given.now.masks work.new result }
 {
     fault::trace(
-        c, job, t, pins, flops, outs, hits, masks, feed, words, state, states, work,
+        setup,
+        &GivenFaults {
+            hits: &given.hits,
+            masks: &given.masks,
+        },
+        &mut space.feed,
+        &mut space.words,
+        &mut space.state,
+        states,
+        work,
     );
-    let at = job.units * job.outputs;
+    let at = setup.job.units * setup.job.outputs;
     let responses = &work[..];
     let middle = middle_stages(
-        c,
-        job,
-        t,
+        setup,
         responses,
         &responses[at..],
         states,
-        pins,
-        flops,
-        outs,
-        hits,
-        masks,
-        feed,
-        words,
-        state,
-        units,
-        bits,
-        row,
+        &GivenFaults {
+            hits: &given.hits,
+            masks: &given.masks,
+        },
+        &mut space.feed,
+        &mut space.words,
+        &mut space.state,
+        &mut space.pairs,
+        &mut space.row,
         list,
-        nout,
+        &mut space.nout,
     );
-    if middle.left == 0 {
-        return record::placed(5, 0, 0);
+    match middle {
+        Middle::Nothing => record::placed(5, 0, 0),
+        Middle::Decided(e) => at_pair(setup.job.flops, setup.flops, e),
+        Middle::Open(left) => last_stages(setup, work, states, list, left, plan, k, given, space),
     }
-    if middle.pair < job.flops * job.units {
-        return at_pair(job.flops, flops, middle.pair);
-    }
-    last_stages(
-        c,
-        job,
-        t,
-        work,
-        states,
-        list,
-        middle.left,
-        plan,
-        k,
-        pins,
-        flops,
-        outs,
-        hits,
-        masks,
-        feed,
-        words,
-        state,
-        units,
-        bits,
-        times,
-        extras,
-    )
 }

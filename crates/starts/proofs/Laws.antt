@@ -2,7 +2,7 @@
 use mathlib.Core.Path.{◌≡◌, refl, sym, ap, ◌∙◌}
 use mathlib.Core.Bool.{Bool, true, false, not, ◌&&◌}
 use mathlib.Core.List.{List, [], ◌∷◌, ◌++◌}
-use mathlib.Core.Option.{none, some, get_or}
+use mathlib.Core.Option.{none, some}
 use Prim.Native.Nat.{ℕ, zero, suc, ◌+◌, ◌-◌, ◌*◌, ◌/◌, ◌%◌, ◌^◌, ◌<◌, ◌≤◌}
 use native.Mathlib.Omega.{arith}
 use native.Mathlib.Decide.{dec_le}
@@ -97,25 +97,17 @@ block_of left = elim (dec_le 64 left) [
   | no g ↦ (left, record { few = omega arith; within = omega arith; whole = λ n l k. k; lanes = λ t h. refl })
 ]
 
-module _ (P : ℕ → Bool) (base count word r : ℕ) (inside : base < count) (has : (t : ℕ) → t < 64 → bit t word ≡ (ltb t (count - base) && P (base + t)))
-    (lowest : r ≡ get_or (first (λ t. bit t word) 64) 64) (before : NoneBelow P base count) where
+module _ (P : ℕ → Bool) (base count word : ℕ) (inside : base < count) (has : (t : ℕ) → t < 64 → bit t word ≡ (ltb t (count - base) && P (base + t)))
+    (before : NoneBelow P base count) where
   -- no lane of the block is left: the search goes on
-  pub block_none : 64 ≤ r → NoneBelow P (base + 64) count
-  block_none h n l k =
+  pub block_none : first (λ t. bit t word) 64 ≡ none → NoneBelow P (base + 64) count
+  block_none e n l k =
       let block = block_of (count - base) in
-      let none_here = none_more P base block.0 word block.1.few (λ t g. has t g ∙ rw (block.1.lanes t g)) r lowest (before base (omega arith) (omega arith)) h in
+      let none_here = none_more P base block.0 word block.1.few (λ t g. has t g ∙ rw (block.1.lanes t g)) (before base (omega arith) (omega arith)) e in
       first-fails P n (λ m g. first-none P (base + block.0) m none_here (omega (arith, block.1.whole (n - base) (omega arith) (omega arith))))
 
   -- the lowest lane of the block: the search ends
-  pub block_found : r < 64 → first P count ≡ some (base + r)
-  block_found h =
+  pub block_found : (lane : ℕ) → first (λ t. bit t word) 64 ≡ some lane → first P count ≡ some (base + lane)
+  block_found lane e =
       let block = block_of (count - base) in
-      first_found P base block.0 word block.1.few (λ t g. has t g ∙ rw (block.1.lanes t g)) r lowest (before base (omega arith) (omega arith)) count (omega arith) h
-
--- what the search gives: a state, or none
-module _ (P : ℕ → Bool) (count n : ℕ) (e : count ≡ n) where
-  pub given-start : (r : ℕ) → first P count ≡ some r → r ≡ get_or (first P n) n
-  given-start r h = rw (← e, h)
-
-  pub given-count : first P count ≡ none → count ≡ get_or (first P n) n
-  given-count h = rw (← e, h)
+      first_found P base block.0 word block.1.few (λ t g. has t g ∙ rw (block.1.lanes t g)) (before base (omega arith) (omega arith)) count lane (omega arith) e

@@ -9,94 +9,70 @@ ghost use Rattle.model.specs.Simulation.{free_outputs};
 ghost use Rattle.model.specs.Starts.{bits, differs};
 ghost use Rattle.lanes.specs.Lane.{bit, Lane, Room};
 ghost use Rattle.unit.specs.Unit.{Stuck};
-ghost use Rattle.run.specs.Run.{Runnable};
+ghost use Rattle.run.specs.Run.{Runs};
 ghost use Rattle.starts.specs.Starts.{FirstNever};
 
-use job::Job;
+use run::Setup;
+use unit::GivenFaults;
 
 // The first so many bits of the number that a lane stands for, bit i at place i, in each lane.
 fn load_starts(base: usize, count: usize, state: &mut [u64])
     requires { (base % 64 ≡ 0) × (count ≤ 64) × (Room count state.old) }
     ensures { (lane : ℕ) → lane < 64 → Lane lane state.new (bits count (base + lane)) }
 {
-    let mut i: usize = 0;
-    while i < count {
+    for i in 0..count {
         lanes::store(state, i, tally::numbered(base, i));
-        i += 1;
     }
 }
 
 // The lanes whose starting state, one of those left from base on, never differs.
 fn never_differing(
-    c: &[u8],
-    job: Job,
-    t: &[u8],
+    setup: &Setup,
     free: &[u8],
     base: usize,
     left: usize,
-    pins: &[u16],
-    flops: &[usize],
-    outs: &[usize],
-    hits: &[u8],
-    masks: &[u64],
+    given: &GivenFaults,
     feed: &mut [u64],
     words: &mut [u64],
     state: &mut [u64],
 ) -> u64
-    requires { (Runnable c.now t.now job pins.now flops.now outs.now hits.now masks.now feed.old words.old state.old) × (F c.now ≤ 12) × (L c.now t.now * O c.now ≤ length free.now) × (base % 64 ≡ 0) }
-    ensures { (lane : ℕ) (f : Fault) → Stuck lane hits.now masks.now f → Rows (O c.now) (L c.now t.now) free.now (free_outputs c.now t.now)
-        → bit lane result ≡ (ltb lane left && not (differs c.now t.now f (base + lane))) }
+    requires { (Runs setup.now given.now.hits.now given.now.masks.now feed.old words.old state.old) × (F setup.now.circuit.now ≤ 12) × (L setup.now.circuit.now setup.now.test.now * O setup.now.circuit.now ≤ length free.now) × (base % 64 ≡ 0) }
+    ensures { (lane : ℕ) (f : Fault) → Stuck lane given.now.hits.now given.now.masks.now f → Rows (O setup.now.circuit.now) (L setup.now.circuit.now setup.now.test.now) free.now (free_outputs setup.now.circuit.now setup.now.test.now)
+        → bit lane result ≡ (ltb lane left && not (differs setup.now.circuit.now setup.now.test.now f (base + lane))) }
 {
-    load_starts(base, job.flops, state);
+    load_starts(base, setup.job.flops, state);
     let wanted = tally::first_lanes(left);
     let differing = run::opposing_ever(
-        c, job, t, job.units, free, wanted, pins, flops, outs, hits, masks, feed, words, state,
+        setup,
+        setup.job.units,
+        free,
+        wanted,
+        given,
+        feed,
+        words,
+        state,
     );
     tally::take_out(wanted, differing)
 }
 
-// The lowest starting state that never differs, with the fault that all lanes have; where each differs, how many there are.
+// The lowest starting state that never differs, with the fault that all lanes have.
 pub fn lowest_never(
-    c: &[u8],
-    job: Job,
-    t: &[u8],
+    setup: &Setup,
     free: &[u8],
-    pins: &[u16],
-    flops: &[usize],
-    outs: &[usize],
-    hits: &[u8],
-    masks: &[u64],
+    given: &GivenFaults,
     feed: &mut [u64],
     words: &mut [u64],
     state: &mut [u64],
-) -> usize
-    requires { (Runnable c.now t.now job pins.now flops.now outs.now hits.now masks.now feed.old words.old state.old) × (F c.now ≤ 12) × (L c.now t.now * O c.now ≤ length free.now) }
-    ensures { FirstNever c.now t.now free.now hits.now masks.now result }
+) -> Option<usize>
+    requires { (Runs setup.now given.now.hits.now given.now.masks.now feed.old words.old state.old) × (F setup.now.circuit.now ≤ 12) × (L setup.now.circuit.now setup.now.test.now * O setup.now.circuit.now ≤ length free.now) }
+    ensures { FirstNever setup.now.circuit.now setup.now.test.now free.now given.now.hits.now given.now.masks.now result }
 {
-    let starts: usize = 1 << job.flops;
-    let mut base: usize = 0;
-    while base < starts {
-        let never = never_differing(
-            c,
-            job,
-            t,
-            free,
-            base,
-            starts - base,
-            pins,
-            flops,
-            outs,
-            hits,
-            masks,
-            feed,
-            words,
-            state,
-        );
-        let lane = tally::lowest(never);
-        if lane < 64 {
-            return base + lane;
+    let starts: usize = 1 << setup.job.flops;
+    for base in (0..starts).step_by(64) {
+        let never = never_differing(setup, free, base, starts - base, given, feed, words, state);
+        if let Some(lane) = tally::lowest(never) {
+            return Some(base + lane);
         }
-        base += 64;
     }
-    starts
+    None
 }

@@ -1,10 +1,10 @@
 -- The extras of a pair: their lengths, at unit 0, and as a trial's lanes show them.
 use mathlib.Core.Path.{◌≡◌, refl, sym, ap, ◌∙◌}
 use mathlib.Core.Bool.{true, false}
-use mathlib.Core.List.{List, ◌∷◌}
+use mathlib.Core.List.{List, [], ◌∷◌}
 use Prim.Native.Nat.{ℕ, zero, suc, ◌+◌, ◌*◌, ◌-◌, ◌/◌, ◌%◌, ◌<◌, ◌≤◌}
 use native.Mathlib.Omega.{arith}
-use lib.ListN.{get_or, length, set, take, drop, replicate, length-set, length-replicate}
+use lib.ListN.{length, set, take, drop, replicate, length-set, length-replicate}
 use Rattle.lists.specs.Field.{row_of, Rows}
 use Rattle.lists.proofs.Field.{part-taken}
 use Rattle.lists.proofs.Tests.{by-test, cond_cases}
@@ -17,7 +17,7 @@ use Rattle.model.proofs.ThreeValued.{next_state-three}
 use Rattle.lanes.specs.Lane.{bit, Lane}
 use Rattle.rows.proofs.Laws.{length-where_x}
 use Rattle.unit.specs.Unit.{Stuck}
-use Rattle.trial.specs.Trial.{Tried, PairsOf}
+use Rattle.trial.specs.Trial.{Tried}
 use Rattle.trial.proofs.Laws.{length-implied, state-size, extra-shown, implied-three}
 use Rattle.take.specs.Take.{with_row, with_pair, LaneExtra}
 
@@ -60,16 +60,6 @@ pub first_made : (c t : List ℕ) (f : Fault) (size u i m : ℕ) (extras extras'
     → extras' ≡ with_pair size m (set (replicate size X) i 0) (set (replicate size X) i 1) extras → extras' ≡ with_pair (F c) m (extra c t f u i 0) (extra c t f u i 1) extras
 first_made c t f size u i m extras extras' es eu e = e ∙ rw (es, eu, extra-first c t f i 0, extra-first c t f i 1)
 
--- one pair of a unit and a flip-flop, at the first place
-pub one-pair : (c t units bits : List ℕ) (u i : ℕ) → get_or units 0 0 ≡ u - 1 → get_or bits 0 0 ≡ i → 0 < length units → 0 < length bits → u < L c t → i < F c → PairsOf c t units bits 1
-one-pair c t units bits u i eu eb lu lb early flop = record {
-  few = omega arith;
-  unit_room = lu;
-  bit_room = lb;
-  unit = λ p h. let first : p ≡ 0 = omega arith in rw (first, eu) (omega arith);
-  bit = λ p h. let first : p ≡ 0 = omega arith in rw (first, eb) flop;
-}
-
 -- ---- the extras of a pair (u, i) that two lanes try
 module _ (c t : List ℕ) (f : Fault) (states : List ℕ) (u i marks : ℕ) (after : List ℕ) (binary : f.value < 2) (late : 0 < u) (early : u < L c t)
     (plain : Rows (F c) (L c t) states (λ u. plain_state c t f u)) where
@@ -95,16 +85,16 @@ module _ (c t : List ℕ) (f : Fault) (states : List ℕ) (u i marks : ℕ) (aft
       ∙ ap (λ x. with_row (F c) (2 * m + 1) (extra c t f u i 1) x) (lane_row lane 0 size (2 * m) extras extras' low es made)
 
 -- ---- a trial of one pair
-module _ (c t : List ℕ) (f : Fault) (free states hits masks units bits : List ℕ) (u i marks : ℕ) (words after : List ℕ) (binary : f.value < 2) (late : 0 < u) (early : u < L c t)
-    (eu : get_or units 0 0 ≡ u - 1) (eb : get_or bits 0 0 ≡ i) (stuck : (lane : ℕ) → lane < 64 → Stuck lane hits masks f)
-    (plain : Rows (F c) (L c t) states (λ u. plain_state c t f u)) (frees : Rows (O c) (L c t) free (λ u. free_outputs c t u)) (tried : Tried c t free states units bits hits masks 1 marks words)
+module _ (c t : List ℕ) (f : Fault) (free states hits masks : List ℕ) (u i marks : ℕ) (words after : List ℕ) (binary : f.value < 2) (late : 0 < u) (early : u < L c t)
+    (stuck : (lane : ℕ) → lane < 64 → Stuck lane hits masks f)
+    (plain : Rows (F c) (L c t) states (λ u. plain_state c t f u)) (frees : Rows (O c) (L c t) free (λ u. free_outputs c t u)) (tried : Tried c t free states (record { unit = u - 1; bit = i } ∷ []) hits masks marks words)
     (shown : (lane : ℕ) (f : Fault) (vs : List ℕ) → Stuck lane hits masks f → Lane lane words vs → length vs ≡ N c → Lane lane after (next_state c f vs)) where
   said : (α : ℕ) → α < 2 → (bit α marks ≡ marked c t f u i α) × (marked c t f u i α ≡ false → Lane α words (implied_at c t f (u - 1) i α))
   said α few =
       let half : α / 2 ≡ 0 = omega arith in
       let rest : α % 2 ≡ α = omega arith in
       let unit : suc (u - 1) ≡ u = omega arith in
-      rw (half, rest, eu, eb, unit) at (tried.lane f stuck plain.at frees.at α (omega arith) (omega arith))
+      rw (half, rest, unit) at (tried.lane f stuck plain.at frees.at α (omega arith) (omega arith))
 
   says : (α : ℕ) → α < 2 → Says c t f states u i marks after binary late early plain α α
   says α few = record { mark = (said α few).0; shown = λ off. shown α f _ (stuck α (omega arith)) ((said α few).1 off) (length-implied c t f _ _ _) }

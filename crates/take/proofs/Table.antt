@@ -38,9 +38,6 @@ row_room size columns u n l e h room = rw e (omega (arith, row_fits columns u n 
 pub long_as : (n l l' : ℕ) → l' ≡ l → n ≤ l → n ≤ l'
 long_as n l l' e h = omega arith
 
-pub table-room : (size columns units n l : ℕ) → units ≡ n → size ≡ columns → n * columns ≤ l → units * size ≤ l
-table-room size columns units n l eu es h = rw (eu, es) h
-
 -- room for 12 pairs
 pub pair-room : (size m l : ℕ) → m < 12 → 24 * size ≤ l → size * (2 * m + 1) + size ≤ l
 pair-room size m l h room = omega (arith, row_fits size (2 * m + 1) 24 (omega arith))

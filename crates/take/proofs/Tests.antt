@@ -1,6 +1,7 @@
 -- The tests of a pair: those that need no trial, and what its extras touch.
 use mathlib.Core.Path.{◌≡◌, refl, sym, ap, ◌∙◌}
 use mathlib.Core.Bool.{Bool, true, false, cond, not, ◌&&◌, ◌||◌}
+use mathlib.Core.Logic.{◌⊎◌, inl, inr}
 use mathlib.Core.List.{List, [], ◌∷◌, ◌++◌}
 use Prim.Native.Nat.{ℕ, zero, suc, ◌+◌, ◌*◌, ◌-◌, ◌/◌, ◌%◌, ◌<◌, ◌≤◌}
 use native.Mathlib.Omega.{arith}
@@ -35,6 +36,12 @@ gather true false false true q' false y = refl
 gather true false false false true true y = refl
 gather true false false false true false y = refl
 gather true false false false false x y = refl
+
+pub swap : (a b : Bool) → (a || b) ≡ (b || a)
+swap true true = refl
+swap true false = refl
+swap false true = refl
+swap false false = refl
 
 -- pair q's extras are e and g where it is of unit u
 met_as : (size : ℕ) (extras : List ℕ) (m q time time' u : ℕ) (low high e g : List ℕ) → time ≡ time' → row_of size extras (2 * m) ≡ low → row_of size extras (2 * m + 1) ≡ high
@@ -103,6 +110,17 @@ meets_as size m r extras table a b z fits room e ea eb =
     e ∙ rw (ea, eb, ← low, ← high, ← other)
 
 -- ---- the tests that need no trial
+-- the first of three tests that fails ends them
+pub not_taken : (m k u units i size left : ℕ) (list : List ℕ) → ((m < k) × (u < units) × (size ≤ i)) ⊎ (((m < k) × (units ≤ u)) ⊎ (k ≤ m)) → may_take m k u units i size left list ≡ false
+unfolding may_take
+not_taken m k u units i size left list (inl h) = rw (lt-ltb m k h.0, lt-ltb u units h.1, le-ltb i size h.2)
+not_taken m k u units i size left list (inr (inl h)) = rw (lt-ltb m k h.0, le-ltb u units h.1)
+not_taken m k u units i size left list (inr (inr h)) = rw (le-ltb m k h)
+
+pub taken_late : (m k u units i size left : ℕ) (list : List ℕ) → (m < k) × (u < units) × (i < size) → leb u left ≡ false → may_take m k u units i size left list ≡ false
+unfolding may_take
+taken_late m k u units i size left list h late = rw (lt-ltb m k h.0, lt-ltb u units h.1, lt-ltb i size h.2, late)
+
 pub outputs_as : (c t : List ℕ) (f : Fault) (left : ℕ) → OpenUnits c t f left → (u : ℕ) → u < L c t → outputs_left c t f u ≡ leb u left
 unfolding outputs_left
 outputs_as c t f left reach zero h = sym (le-leb 0 left (omega arith))

@@ -6,10 +6,12 @@ ghost use Rattle.std.specs.Prelude.{false, ◌&&◌, ◌||◌, ◌≡◌, ◌+�
 ghost use Rattle.model.specs.Inputs.{F, O, L, plan_count};
 ghost use Rattle.model.specs.Values.{X};
 ghost use Rattle.lanes.specs.Lane.{Room};
-ghost use Rattle.run.specs.Run.{Runnable};
+ghost use Rattle.run.specs.Run.{Runs};
 ghost use Rattle.take.specs.Take.{may_take, with_pair, meets_row, LaneExtra, PairMade, Touched, PairTaken, AllTaken};
 
-use job::Job;
+use run::Setup;
+use trial::Pair;
+use unit::GivenFaults;
 
 // The tests of a pair (u, i) that need no trial, where m pairs are taken.
 fn may_take(
@@ -25,19 +27,7 @@ fn may_take(
     requires { units * size ≤ length list.now }
     ensures { result ≡ may_take m k u units i size left list.now }
 {
-    if m >= k {
-        return false;
-    }
-    if u >= units {
-        return false;
-    }
-    if i >= size {
-        return false;
-    }
-    if u > left {
-        return false;
-    }
-    list[size * u + i] > 1
+    m < k && u < units && i < size && u <= left && list[size * u + i] > 1
 }
 
 // The extras of (0, i): bit i alone, 0 and 1.
@@ -77,75 +67,74 @@ pub fn lane_extra(
 
 // The extras of (u, i), by a trial at the unit before u.
 fn tried_extras(
-    c: &[u8],
-    job: Job,
-    t: &[u8],
+    setup: &Setup,
     free: &[u8],
     states: &[u8],
     u: usize,
     i: usize,
     m: usize,
-    pins: &[u16],
-    flops: &[usize],
-    outs: &[usize],
-    hits: &[u8],
-    masks: &[u64],
+    given: &GivenFaults,
     feed: &mut [u64],
     words: &mut [u64],
     state: &mut [u64],
-    units: &mut [usize],
-    bits: &mut [usize],
     extras: &mut [u8],
 )
-    requires { (Runnable c.now t.now job pins.now flops.now outs.now hits.now masks.now feed.old words.old state.old)
-        × (L c.now t.now * O c.now ≤ length free.now) × (L c.now t.now * F c.now ≤ length states.now) × (0 < u) × (u < L c.now t.now) × (i < F c.now) × (m < 12)
-        × (0 < length units.old) × (0 < length bits.old) × (F c.now * (2 * m + 1) + F c.now ≤ length extras.old) }
-    ensures { PairMade c.now t.now free.now states.now hits.now masks.now u i m extras.old extras.new }
+    requires { (Runs setup.now given.now.hits.now given.now.masks.now feed.old words.old state.old)
+        × (L setup.now.circuit.now setup.now.test.now * O setup.now.circuit.now ≤ length free.now) × (L setup.now.circuit.now setup.now.test.now * F setup.now.circuit.now ≤ length states.now) × (0 < u) × (u < L setup.now.circuit.now setup.now.test.now) × (i < F setup.now.circuit.now) × (m < 12)
+        × (F setup.now.circuit.now * (2 * m + 1) + F setup.now.circuit.now ≤ length extras.old) }
+    ensures { PairMade setup.now.circuit.now setup.now.test.now free.now states.now given.now.hits.now given.now.masks.now u i m extras.old extras.new }
 {
-    units[0] = u - 1;
-    bits[0] = i;
-    let marks = trial::try_pairs(
-        c, job, t, free, states, units, bits, 1, pins, flops, outs, hits, masks, feed, words, state,
+    let pair = Pair {
+        unit: u - 1,
+        bit: i,
+    };
+    let marks = trial::try_pairs(setup, free, states, &[pair], given, feed, words, state);
+    unit::next_state(
+        setup.circuit,
+        setup.flops,
+        setup.job.flops,
+        given,
+        words,
+        state,
     );
-    unit::next_state(c, flops, job.flops, hits, masks, words, state);
-    lane_extra(job.flops, states, u, state, marks, 0, 2 * m, extras);
-    lane_extra(job.flops, states, u, state, marks, 1, 2 * m + 1, extras);
+    lane_extra(setup.job.flops, states, u, state, marks, 0, 2 * m, extras);
+    lane_extra(
+        setup.job.flops,
+        states,
+        u,
+        state,
+        marks,
+        1,
+        2 * m + 1,
+        extras,
+    );
 }
 
 // The extras of (u, i), in the rows of pair m.
 fn make_extras(
-    c: &[u8],
-    job: Job,
-    t: &[u8],
+    setup: &Setup,
     free: &[u8],
     states: &[u8],
     u: usize,
     i: usize,
     m: usize,
-    pins: &[u16],
-    flops: &[usize],
-    outs: &[usize],
-    hits: &[u8],
-    masks: &[u64],
+    given: &GivenFaults,
     feed: &mut [u64],
     words: &mut [u64],
     state: &mut [u64],
-    units: &mut [usize],
-    bits: &mut [usize],
     extras: &mut [u8],
 )
-    requires { (Runnable c.now t.now job pins.now flops.now outs.now hits.now masks.now feed.old words.old state.old)
-        × (L c.now t.now * O c.now ≤ length free.now) × (L c.now t.now * F c.now ≤ length states.now) × (u < L c.now t.now) × (i < F c.now) × (m < 12)
-        × (0 < length units.old) × (0 < length bits.old) × (F c.now * (2 * m + 1) + F c.now ≤ length extras.old) }
-    ensures { PairMade c.now t.now free.now states.now hits.now masks.now u i m extras.old extras.new }
+    requires { (Runs setup.now given.now.hits.now given.now.masks.now feed.old words.old state.old)
+        × (L setup.now.circuit.now setup.now.test.now * O setup.now.circuit.now ≤ length free.now) × (L setup.now.circuit.now setup.now.test.now * F setup.now.circuit.now ≤ length states.now) × (u < L setup.now.circuit.now setup.now.test.now) × (i < F setup.now.circuit.now) × (m < 12)
+        × (F setup.now.circuit.now * (2 * m + 1) + F setup.now.circuit.now ≤ length extras.old) }
+    ensures { PairMade setup.now.circuit.now setup.now.test.now free.now states.now given.now.hits.now given.now.masks.now u i m extras.old extras.new }
 {
     if u == 0 {
-        first_extras(job.flops, i, m, extras);
+        first_extras(setup.job.flops, i, m, extras);
         return;
     }
     tried_extras(
-        c, job, t, free, states, u, i, m, pins, flops, outs, hits, masks, feed, words, state,
-        units, bits, extras,
+        setup, free, states, u, i, m, given, feed, words, state, extras,
     );
 }
 
@@ -162,7 +151,7 @@ fn meets_row(size: usize, extras: &[u8], m: usize, table: &[u8], r: usize) -> bo
     let high = size * (2 * m + 1);
     let high_end = high + size;
     let one = rows::overlap(&extras[high..high_end], &table[at..to], size);
-    basics::either(zero, one)
+    zero | one
 }
 
 // Whether pair q is of unit u, and either extra of pair m overlaps one of its own.
@@ -170,12 +159,9 @@ fn meets_pair(size: usize, extras: &[u8], m: usize, times: &[usize], u: usize, q
     requires { (m < 12) × (q < m) × (q < length times.now) × (size * (2 * m + 1) + size ≤ length extras.now) }
     ensures { result ≡ (eqb (get_or times.now q 0) u && (meets_row size extras.now m extras.now (2 * q) || meets_row size extras.now m extras.now (2 * q + 1))) }
 {
-    if times[q] != u {
-        return false;
-    }
-    let zero = meets_row(size, extras, m, extras, 2 * q);
-    let one = meets_row(size, extras, m, extras, 2 * q + 1);
-    basics::either(zero, one)
+    times[q] == u
+        && (meets_row(size, extras, m, extras, 2 * q)
+            || meets_row(size, extras, m, extras, 2 * q + 1))
 }
 
 // Whether either extra of pair m, of unit u, overlaps the state list there or the extras of a pair before it, from the last to the first.
@@ -184,19 +170,15 @@ pub fn touches(size: usize, list: &[u8], u: usize, times: &[usize], m: usize, ex
     ensures { Touched size list.now u times.now m extras.now result }
 {
     let mut found = meets_row(size, extras, m, list, u);
-    let mut q = m;
-    while 0 < q {
-        q -= 1;
-        found = basics::either(meets_pair(size, extras, m, times, u, q), found);
+    for q in (0..m).rev() {
+        found |= meets_pair(size, extras, m, times, u, q);
     }
     found
 }
 
 // The pair (u, i) of the plan, behind m pairs taken: how many are taken then.
 pub fn take_pair(
-    c: &[u8],
-    job: Job,
-    t: &[u8],
+    setup: &Setup,
     free: &[u8],
     states: &[u8],
     list: &[u8],
@@ -205,33 +187,26 @@ pub fn take_pair(
     i: usize,
     k: usize,
     m: usize,
-    pins: &[u16],
-    flops: &[usize],
-    outs: &[usize],
-    hits: &[u8],
-    masks: &[u64],
+    given: &GivenFaults,
     feed: &mut [u64],
     words: &mut [u64],
     state: &mut [u64],
-    units: &mut [usize],
-    bits: &mut [usize],
     times: &mut [usize],
     extras: &mut [u8],
 ) -> usize
-    requires { (Runnable c.now t.now job pins.now flops.now outs.now hits.now masks.now feed.old words.old state.old)
-        × (L c.now t.now * O c.now ≤ length free.now) × (L c.now t.now * F c.now ≤ length states.now) × (L c.now t.now * F c.now ≤ length list.now) × (m ≤ k) × (k ≤ 12)
-        × (0 < length units.old) × (0 < length bits.old) × (12 ≤ length times.old) × (24 * F c.now ≤ length extras.old) }
-    ensures { PairTaken c.now t.now free.now states.now list.now hits.now masks.now left u i k m
+    requires { (Runs setup.now given.now.hits.now given.now.masks.now feed.old words.old state.old)
+        × (L setup.now.circuit.now setup.now.test.now * O setup.now.circuit.now ≤ length free.now) × (L setup.now.circuit.now setup.now.test.now * F setup.now.circuit.now ≤ length states.now) × (L setup.now.circuit.now setup.now.test.now * F setup.now.circuit.now ≤ length list.now) × (m ≤ k) × (k ≤ 12)
+        × (12 ≤ length times.old) × (24 * F setup.now.circuit.now ≤ length extras.old) }
+    ensures { PairTaken setup.now.circuit.now setup.now.test.now free.now states.now list.now given.now.hits.now given.now.masks.now left u i k m
         times.old extras.old result times.new extras.new }
 {
-    if !may_take(m, k, u, job.units, i, job.flops, left, list) {
+    if !may_take(m, k, u, setup.job.units, i, setup.job.flops, left, list) {
         return m;
     }
     make_extras(
-        c, job, t, free, states, u, i, m, pins, flops, outs, hits, masks, feed, words, state,
-        units, bits, extras,
+        setup, free, states, u, i, m, given, feed, words, state, extras,
     );
-    if touches(job.flops, list, u, times, m, extras) {
+    if touches(setup.job.flops, list, u, times, m, extras) {
         return m;
     }
     times[m] = u;
@@ -241,43 +216,31 @@ pub fn take_pair(
 // The plan's pairs that are taken of the fault that all lanes have, at most k of them: how many, the unit of each, and their extras, two rows a
 // pair. Nout is above 0 at the first `left` units.
 pub fn take_pairs(
-    c: &[u8],
-    job: Job,
-    t: &[u8],
+    setup: &Setup,
     free: &[u8],
     states: &[u8],
     list: &[u8],
     left: usize,
     plan: &[u8],
     k: usize,
-    pins: &[u16],
-    flops: &[usize],
-    outs: &[usize],
-    hits: &[u8],
-    masks: &[u64],
+    given: &GivenFaults,
     feed: &mut [u64],
     words: &mut [u64],
     state: &mut [u64],
-    units: &mut [usize],
-    bits: &mut [usize],
     times: &mut [usize],
     extras: &mut [u8],
 ) -> usize
-    requires { (Runnable c.now t.now job pins.now flops.now outs.now hits.now masks.now feed.old words.old state.old)
-        × (L c.now t.now * O c.now ≤ length free.now) × (L c.now t.now * F c.now ≤ length states.now) × (L c.now t.now * F c.now ≤ length list.now)
+    requires { (Runs setup.now given.now.hits.now given.now.masks.now feed.old words.old state.old)
+        × (L setup.now.circuit.now setup.now.test.now * O setup.now.circuit.now ≤ length free.now) × (L setup.now.circuit.now setup.now.test.now * F setup.now.circuit.now ≤ length states.now) × (L setup.now.circuit.now setup.now.test.now * F setup.now.circuit.now ≤ length list.now)
         × (length plan.now ≡ 4 * plan_count plan.now) × (plan_count plan.now ≤ 4096) × (k ≤ 12)
-        × (0 < length units.old) × (0 < length bits.old) × (12 ≤ length times.old) × (24 * F c.now ≤ length extras.old) }
-    ensures { AllTaken c.now t.now free.now states.now list.now plan.now hits.now masks.now left k result
+        × (12 ≤ length times.old) × (24 * F setup.now.circuit.now ≤ length extras.old) }
+    ensures { AllTaken setup.now.circuit.now setup.now.test.now free.now states.now list.now plan.now given.now.hits.now given.now.masks.now left k result
         times.new extras.new }
 {
-    let count = plan.len() / 4;
     let mut m: usize = 0;
-    let mut n: usize = 0;
-    while n < count {
+    for n in 0..plan.len() / 4 {
         m = take_pair(
-            c,
-            job,
-            t,
+            setup,
             free,
             states,
             list,
@@ -286,20 +249,13 @@ pub fn take_pairs(
             basics::word_at(plan, 4 * n + 2),
             k,
             m,
-            pins,
-            flops,
-            outs,
-            hits,
-            masks,
+            given,
             feed,
             words,
             state,
-            units,
-            bits,
             times,
             extras,
         );
-        n += 1;
     }
     m
 }

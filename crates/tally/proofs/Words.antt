@@ -1,19 +1,19 @@
 -- What the words hold: the bits of consecutive numbers, and the lanes of a word, counted and searched from the lowest bit on.
-use mathlib.Core.Path.{◌≡◌, refl, ap, ◌∙◌}
+use mathlib.Core.Path.{◌≡◌, refl, ◌∙◌}
 use mathlib.Core.Bool.{Bool, true, cond}
-use mathlib.Core.Option.{none, get_or}
 use Prim.Native.Nat.{ℕ, zero, suc, ◌+◌, ◌-◌, ◌*◌, ◌/◌, ◌%◌, ◌^◌, ◌<◌, ◌≤◌}
 use native.Mathlib.Omega.{arith}
 use native.Mathlib.Nat.{div-one, div-div-eq-div-mul, pow-succ'}
-use lib.Dec.{eqb, ltb}
-use borrow.Author.Tests.{ltb-true}
+use lib.Dec.{eqb}
 use lib.Pow.{pow-add}
-use lib.Count.{ones, ones_step, ones-le, count_trailing_zeros, under}
-use lib.Bits.{bit_xor}
-use Rattle.lists.specs.Scan.{first, count_below}
-use Rattle.lists.proofs.Scan.{Lowest, given-cases, first_some, first-fails, first-lowest, first-same, first-none-more, first-some-more, count_below-same, count_below-add}
+use lib.Count.{ones, ones_step, ones-le}
+use Rattle.std.proofs.Common.{w64}
+use Rattle.std.specs.Int.{trailing_zeros}
+use Rattle.std.proofs.lemmas.Nat.Bits.{bit_at-trailing_zeros}
+use Rattle.lists.specs.Scan.{count_below}
+use Rattle.lists.proofs.Scan.{Lowest, count_below-same, count_below-add}
 use Rattle.lanes.specs.Lane.{bit, is0, is1, Shows}
-use Rattle.lanes.proofs.Bits.{bit-xor, bit-all, xor_b, every, every-at, same, same-eq}
+use Rattle.lanes.proofs.Bits.{bit-not, every, every-at, same, same-eq}
 
 -- ---- numbers
 -- the lowest six bits are the lane's
@@ -34,11 +34,11 @@ high_digit base t i e h g =
     rw (k, pow-add 2 6 (i - 6), ← div-div-eq-div-mul (base + t) 64 (2 ^ (i - 6)), ← div-div-eq-div-mul base 64 (2 ^ (i - 6)), block)
 
 -- a digit in each lane: the ones are the lanes that have it, the zeros all others
-pub shows-digit : (t word d : ℕ) → t < 64 → d < 2 → bit t word ≡ eqb d 1 → Shows t (bit_xor word 0xffffffffffffffff) word d
-unfolding is0 is1 xor_b
-shows-digit t word zero h l e = record { zero? = bit-xor t word 0xffffffffffffffff ∙ rw (e, bit-all t h); one? = e }
-shows-digit t word (suc zero) h l e = record { zero? = bit-xor t word 0xffffffffffffffff ∙ rw (e, bit-all t h); one? = e }
-shows-digit t word (suc (suc d)) h l e = absurd (let z : ⊥ = omega arith in z)
+pub shows-digit : (t word d : ℕ) → t < 64 → word < 2 ^ 64 → d < 2 → bit t word ≡ eqb d 1 → Shows t (0xffffffffffffffff - word) word d
+unfolding is0 is1
+shows-digit t word zero h fits l e = record { zero? = bit-not t word h fits ∙ rw e; one? = e }
+shows-digit t word (suc zero) h fits l e = record { zero? = bit-not t word h fits ∙ rw e; one? = e }
+shows-digit t word (suc (suc d)) h fits l e = absurd (let z : ⊥ = omega arith in z)
 
 -- a word has just the lanes with bit k: a test that is computed
 unfoldable pub has_bit : ℕ → ℕ → Bool
@@ -47,10 +47,6 @@ has_bit k word = every (λ t. same (bit t word) (eqb (t / 2 ^ k % 2) 1)) 64
 pub has-bit : (k word i t : ℕ) → i ≡ k → t < 64 → has_bit k word ≡ true → bit t word ≡ eqb (t / 2 ^ i % 2) 1
 unfolding has_bit
 has-bit k word i t q h e = rw q (same-eq _ _ (every-at (λ t. same (bit t word) (eqb (t / 2 ^ k % 2) 1)) 64 t e h))
-
-pub shifted_one : (n : ℕ) → n < 64 → 1 ≤ 1 * 2 ^ n % 0x10000000000000000
-unfolding every
-shifted_one n h = ltb-true 0 _ (every-at (λ n. ltb 0 (1 * 2 ^ n % 0x10000000000000000)) 64 n refl h)
 
 -- ---- words, by their lowest bit and the rest
 bit-lowest : (x : ℕ) → bit 0 x ≡ eqb (x % 2) 1
@@ -80,38 +76,9 @@ ones-counted (suc k) x h =
     let whole : 1 + k ≡ suc k = omega arith in
     rw (← whole, count_below-add (λ t. bit t x) 1 k) (omega (arith, ones_step x, count-lowest x))
 
--- the lowest lane in the word among the first k, or k
-abbrev lowest_of : ℕ → ℕ → ℕ
-lowest_of k x = get_or (first (λ t. bit t x) k) k
-
-module _ (k x : ℕ) where
-  lowest-here : x % 2 ≡ 1 → lowest_of (suc k) x ≡ 0
-  lowest-here e =
-      let found : Lowest (λ t. bit t x) (suc k) 0 = record {
-        below = omega arith;
-        passes = rw (bit-lowest x, e);
-        fails = λ j h. absurd (let z : ⊥ = omega arith in z);
-      } in
-      rw (first-lowest (λ t. bit t x) (suc k) 0 found)
-
-  lowest-later : x % 2 ≡ 0 → lowest_of (suc k) x ≡ suc (lowest_of k (x / 2))
-  lowest-later e =
-      let not-here : first (λ t. bit t x) 1 ≡ none = first-fails (λ t. bit t x) 1 (λ t h. let z : t ≡ 0 = omega arith in rw (z, bit-lowest x, e)) in
-      let rest : first (λ t. bit (1 + t) x) k ≡ first (λ t. bit t (x / 2)) k = first-same (λ t. bit (1 + t) x) (λ t. bit t (x / 2)) k (λ t _. bit-later t x) in
-      let whole : 1 + k ≡ suc k = omega arith in
-      given-cases (λ m. lowest_of (suc k) x ≡ suc m) (first (λ t. bit t (x / 2)) k) k
-      (λ t f.
-      let l : t < k = (first_some (λ t. bit t (x / 2)) k t f).below in
-      rw (first-some-more (λ t. bit t x) 1 k not-here (suc k) t (rest ∙ f) (omega arith)) (omega arith))
-      (λ f. let g : first (λ t. bit t x) (1 + k) ≡ none = first-none-more (λ t. bit t x) 1 k not-here (rest ∙ f) in rw (rw whole at g))
-
 -- the zeros below the lowest set digit are as many as its number
-trailing_step : (k x d : ℕ) → x % 2 ≡ d → count_trailing_zeros k (x / 2) ≡ lowest_of k (x / 2) → under d (count_trailing_zeros k (x / 2)) ≡ lowest_of (suc k) x
-trailing_step k x zero e h = rw (lowest-later k x e) (ap suc h)
-trailing_step k x (suc zero) e h = rw (lowest-here k x e)
-trailing_step k x (suc (suc d)) e h = absurd (let z : ⊥ = omega arith in z)
-
-pub trailing_lowest : (k x : ℕ) → count_trailing_zeros k x ≡ lowest_of k x
-unfolding count_trailing_zeros first
-trailing_lowest zero x = refl
-trailing_lowest (suc k) x = trailing_step k x (x % 2) refl (trailing_lowest k (x / 2))
+pub trailing_lowest : (x : ℕ) → 0 < x → x < 2 ^ 64 → Lowest (λ t. bit t x) 64 (trailing_zeros w64 x)
+unfolding bit
+trailing_lowest x some fits =
+    let set = bit_at-trailing_zeros w64 x some fits in
+    record { below = set.0; passes = rw set.1; fails = λ j h. rw (set.2 j h) }

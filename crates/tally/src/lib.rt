@@ -2,14 +2,12 @@
 // multiple of 64: of a number's bits the lowest six are then the lane's own, and all others those of base.
 #![tactic(auto)]
 
-ghost use Rattle.std.specs.Prelude.{not, ◌&&◌, ◌≡◌, ℕ, ◌+◌, ◌<◌, ◌≤◌, ◌/◌, ◌%◌, ◌^◌, eqb, ltb};
-ghost use Rattle.std.proofs.Math.Option.{get_or};
+ghost use Rattle.std.specs.Prelude.{not, ◌&&◌, ◌≡◌, ℕ, ◌+◌, ◌<◌, ◌≤◌, ◌/◌, ◌%◌, ◌^◌, eqb, ltb, MatchOption};
+ghost use Rattle.std.proofs.Math.Option.{none, some};
 ghost use Rattle.lists.specs.Scan.{count_below, first};
 ghost use Rattle.lanes.specs.Lane.{bit, Holds};
 
 use lanes::Lanes;
-
-const ALL: u64 = 0xffff_ffff_ffff_ffff;
 
 // The lanes whose number has bit i, one of the lowest six.
 fn with_bit(i: usize) -> u64
@@ -35,20 +33,14 @@ pub fn numbered(base: usize, i: usize) -> Lanes
         return Lanes::all(((base >> i) % 2) as u8);
     }
     let ones = with_bit(i);
-    Lanes {
-        zeros: ones ^ ALL,
-        ones,
-    }
+    Lanes { zeros: !ones, ones }
 }
 
 // How many of those left the next 64 lanes take.
 pub fn block(left: usize) -> usize
     ensures { (result ≤ 64) × (result ≤ left) × (result < 64 → result ≡ left) }
 {
-    if left < 64 {
-        return left;
-    }
-    64
+    left.min(64)
 }
 
 // The lanes below count.
@@ -56,7 +48,7 @@ pub fn first_lanes(count: usize) -> u64
     ensures { (t : ℕ) → t < 64 → bit t result ≡ ltb t count }
 {
     if count >= 64 {
-        return ALL;
+        return u64::MAX;
     }
     (1 << count) - 1
 }
@@ -73,19 +65,22 @@ pub fn has_lane(word: u64, lane: usize) -> bool
 pub fn count(word: u64) -> usize
     ensures { result ≡ count_below (λ t. bit t word) 64 }
 {
-    u64::count_ones(word) as usize
+    word.count_ones() as usize
 }
 
-// The lowest lane in the word, 64 where there is none.
-pub fn lowest(word: u64) -> usize
-    ensures { (result ≡ get_or (first (λ t. bit t word) 64) 64) × (result ≤ 64) }
+// The lowest lane in the word.
+pub fn lowest(word: u64) -> Option<usize>
+    ensures { MatchOption result (first (λ t. bit t word) 64 ≡ none) (λ lane. (first (λ t. bit t word) 64 ≡ some lane) × (lane < 64)) }
 {
-    u64::trailing_zeros(word) as usize
+    if word == 0 {
+        return None;
+    }
+    Some(word.trailing_zeros() as usize)
 }
 
 // The lanes in the word and not in the other.
 pub fn take_out(word: u64, other: u64) -> u64
     ensures { (t : ℕ) → bit t result ≡ (bit t word && not (bit t other)) }
 {
-    (word | other) ^ other
+    word & !other
 }

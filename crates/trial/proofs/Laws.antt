@@ -1,5 +1,5 @@
 -- Lanes of pairs, and what is carried from pair to pair.
-use mathlib.Core.Path.{◌≡◌, refl, sym, ap, ◌∙◌}
+use mathlib.Core.Path.{◌≡◌, refl, ap, ◌∙◌}
 use mathlib.Core.Bool.{Bool, true, false, cond, not, ◌&&◌, ◌||◌}
 use mathlib.Core.List.{List}
 use Prim.Native.Nat.{ℕ, zero, suc, ◌+◌, ◌*◌, ◌-◌, ◌/◌, ◌%◌, ◌<◌, ◌≤◌}
@@ -7,12 +7,12 @@ use native.Mathlib.Omega.{arith}
 use native.Mathlib.Decide.{dec_le}
 use lib.Bits.{bit_and, bit_or}
 use lib.Dec.{eqb, leb, ltb}
-use lib.ListN.{get_or, length, length-set}
-use borrow.Author.Tests.{leb-true, leb-false, eq-eqb, ne_eqb, le-leb, lt-leb, lt-ltb, le-ltb}
+use lib.ListN.{length, length-set}
+use borrow.Author.Tests.{eq-eqb, ne_eqb, le-leb, lt-leb, lt-ltb, le-ltb}
 use Rattle.lists.specs.Field.{row_of}
 use Rattle.lists.proofs.Tests.{by-test, by-eq, or_left_false}
 use Rattle.lists.proofs.Field.{row_fits}
-use Rattle.model.specs.Inputs.{N, pin_line, flip_flop_line, I, F, O, L, inputs_at, Fault}
+use Rattle.model.specs.Inputs.{N, pin_line, flip_flop_line, I, F, L, inputs_at, Fault}
 use Rattle.model.specs.Accepted.{ValidTest, ThreeValued}
 use Rattle.model.specs.Values.{X, some_oppose, has_conflict}
 use Rattle.model.specs.Simulation.{line_values, outputs, next_state, power_up, values_at, plain_state, plain_values, free_outputs}
@@ -25,12 +25,11 @@ use Rattle.lanes.specs.Lane.{bit, Holds, Conflict, lanes_at, stored, Room, Follo
 use Rattle.lanes.proofs.Bits.{bit-and, bit-or}
 use Rattle.lanes.proofs.Laws.{lane-read}
 use Rattle.lanes.proofs.Follows.{clear_at, conflict_as, follows-give, follows-X}
-use Rattle.job.specs.Job.{JobOf}
-use Rattle.job.specs.declared.Job.{Job}
 use Rattle.run.proofs.Laws.{length-inputs, length-state, length-power_up}
 use Rattle.imply.proofs.Pins.{length-give}
 use Rattle.imply.proofs.Steps.{length-down, length_up}
-use Rattle.trial.specs.Trial.{StandsAt, Carried, tried_to, PairsOf}
+use Rattle.trial.specs.declared.Pair.{Pair}
+use Rattle.trial.specs.Trial.{pair_of, Carried, tried_to}
 
 sides : (a b : Bool) → (((a && true) || (b && false)) ≡ a) × (((a && false) || (b && true)) ≡ b)
 sides true true = (refl, refl)
@@ -39,13 +38,6 @@ sides false true = (refl, refl)
 sides false false = (refl, refl)
 
 -- ---- the lanes of a pair
--- a lane below pair p's is not among those from p on, and one that is not below is
-pub below-from : {A : Type 0} (b : Bool) (p q : ℕ) → b ≡ leb p q → q < p → b ≡ true → A
-below-from b p q e h w = absurd (let z : ⊥ = omega (arith, leb-true p q (sym e ∙ w)) in z)
-
-pub above_from : {A : Type 0} (b : Bool) (p q : ℕ) → b ≡ leb p q → p ≤ q → b ≡ false → A
-above_from b p q e h w = absurd (let z : ⊥ = omega (arith, leb-false p q (sym e ∙ w)) in z)
-
 pub from-pair : (p t : ℕ) → not (ltb t (2 * p)) ≡ leb p (t / 2)
 from-pair p t = elim (dec_le p (t / 2)) [
   | yes h ↦ rw (le-leb p (t / 2) h, le-ltb t (2 * p) (omega arith))
@@ -60,26 +52,10 @@ pair-value p t = by-eq (t / 2) p
     (λ h. rw (ne_eqb (t / 2) p h, ne_eqb t (2 * p + 1) (λ q. h (omega arith)), ne_eqb t (2 * p) (λ q. h (omega arith))))
 
 -- ---- what is carried from pair to pair
-module _ (units : List ℕ) where
-  pub carried_none : (Has : ℕ → ℕ → Type 0) → Carried 0 units Has
-  carried_none Has = record { pair = λ lane h l. absurd (let z : ⊥ = omega arith in z); rest = λ q lane e h l. absurd (let z : ⊥ = omega arith in z) }
-
-  -- pair p is of the same unit as the pair before it
-  pub carried_same : (Has : ℕ → ℕ → Type 0) (p : ℕ) → 0 < p → get_or units p 0 ≡ get_or units (p - 1) 0 → Carried p units Has → Carried (p + 1) units Has
-  carried_same Has p some same old = record {
-    pair = λ lane h l. elim (dec_le (suc (lane / 2)) p) [
-      | yes g ↦ old.pair lane g l
-      | no g ↦ (let here : lane / 2 ≡ p = omega arith in rw (here, same) (above lane (omega arith) l))
-    ];
-    rest = λ q lane e h l. let here : q ≡ p = omega arith in rw (here, same) (above lane (omega arith) l);
-  }
-    where
-      above : (lane : ℕ) → p ≤ lane / 2 → lane < 64 → Has lane (get_or units (p - 1) 0)
-      above lane h l = old.rest (p - 1) lane (omega arith) (omega arith) l
-
+module _ (pairs : List Pair) where
   -- the lanes from pair p on get what is so for its unit, and all others keep what they have
   pub carried-more : (Has Has' : ℕ → ℕ → Type 0) (p : ℕ) → ((lane v : ℕ) → lane < 64 → lane / 2 < p → Has lane v → Has' lane v)
-      → ((lane : ℕ) → lane < 64 → p ≤ lane / 2 → Has' lane (get_or units p 0)) → Carried p units Has → Carried (p + 1) units Has'
+      → ((lane : ℕ) → lane < 64 → p ≤ lane / 2 → Has' lane (pair_of pairs p).unit) → Carried p pairs Has → Carried (p + 1) pairs Has'
   carried-more Has Has' p keep get old = record {
     pair = λ lane h l. elim (dec_le (suc (lane / 2)) p) [
       | yes g ↦ keep lane _ l g (old.pair lane g l)
@@ -88,62 +64,42 @@ module _ (units : List ℕ) where
     rest = λ q lane e h l. let here : q ≡ p = omega arith in rw here (get lane l (omega arith));
   }
 
--- the sizes by other names
-pub stands_as : (i i' s s' : ℕ) (units t states feed state : List ℕ) (p : ℕ) → i ≡ i' → s ≡ s' → Carried p units (λ lane v. StandsAt lane i s t states feed state v)
-    → Carried p units (λ lane v. StandsAt lane i' s' t states feed state v)
-stands_as i i' s s' units t states feed state p ei es h = rw (← ei, ← es) h
-
 -- ---- pin lines that are given what their lanes try
-module _ (c bits vs : List ℕ) (p lane : ℕ) where
-  tried-length : (p : ℕ) → length (tried_to c bits p lane vs) ≡ length vs
+module _ (c : List ℕ) (pairs : List Pair) (vs : List ℕ) (p lane : ℕ) where
+  tried-length : (p : ℕ) → length (tried_to c pairs p lane vs) ≡ length vs
   unfolding tried_to give_line
   tried-length p = by-test (ltb (lane / 2) p) (λ e. rw e (simp length-set)) (λ e. rw e)
 
-  tried_here : lane / 2 ≡ p → give_line (tried_to c bits p lane vs) (pin_line c (flip_flop_line c (get_or bits p 0)) 1) (lane % 2) ≡ tried_to c bits (p + 1) lane vs
+  tried_here : lane / 2 ≡ p → give_line (tried_to c pairs p lane vs) (pin_line c (flip_flop_line c (pair_of pairs p).bit) 1) (lane % 2) ≡ tried_to c pairs (p + 1) lane vs
   unfolding tried_to
   tried_here e = rw (e, le-ltb p p (omega arith), lt-ltb p (p + 1) (omega arith))
 
-  tried_else : (lane / 2 ≡ p → ⊥) → tried_to c bits p lane vs ≡ tried_to c bits (p + 1) lane vs
+  tried_else : (lane / 2 ≡ p → ⊥) → tried_to c pairs p lane vs ≡ tried_to c pairs (p + 1) lane vs
   unfolding tried_to
   tried_else n = elim (dec_le (suc (lane / 2)) p) [
     | yes h ↦ rw (lt-ltb (lane / 2) p h, lt-ltb (lane / 2) (p + 1) (omega arith))
     | no h ↦ rw (le-ltb (lane / 2) p (omega arith), le-ltb (lane / 2) (p + 1) (let z : p + 1 ≤ lane / 2 = elim (dec_le (p + 1) (lane / 2)) [ yes g ↦ g | no g ↦ absurd (n (omega arith)) ] in z))
   ]
 
-  pub pair-given : (ws ws' : List ℕ) (m : ℕ) (x both r : Lanes) → m ≡ pin_line c (flip_flop_line c (get_or bits p 0)) 1 → m < length vs → Room (m + 1) ws → x ≡ lanes_at ws m
+  pub pair-given : (ws ws' : List ℕ) (m : ℕ) (x both r : Lanes) → m ≡ pin_line c (flip_flop_line c (pair_of pairs p).bit) 1 → m < length vs → Room (m + 1) ws → x ≡ lanes_at ws m
       → Holds lane both (cond (eqb (lane / 2) p) (lane % 2) X)
       → ((t v w : ℕ) → v < 3 → w < 3 → Holds t x v → Holds t both w → Given t r v w) × ((t : ℕ) → Conflict t x → Conflict t r) → ws' ≡ stored ws m r
-      → Follows lane ws (tried_to c bits p lane vs) → Follows lane ws' (tried_to c bits (p + 1) lane vs)
+      → Follows lane ws (tried_to c pairs p lane vs) → Follows lane ws' (tried_to c pairs (p + 1) lane vs)
   pair-given ws ws' m x both r em inside room ex hb give es old = rw es (by-eq (lane / 2) p
       (λ h. rw (← tried_here h, ← em) (given (lane % 2) (omega arith) (rw (eq-eqb (lane / 2) p h) at hb)))
       (λ n. rw (← tried_else n) (follows-X lane _ _ m (given X (omega arith) (rw (ne_eqb (lane / 2) p n) at hb)))))
     where
-      given : (w : ℕ) → w < 3 → Holds lane both w → Follows lane (stored ws m r) (give_line (tried_to c bits p lane vs) m w)
+      given : (w : ℕ) → w < 3 → Holds lane both w → Follows lane (stored ws m r) (give_line (tried_to c pairs p lane vs) m w)
       given w few h =
-          let long : length (tried_to c bits p lane vs) ≡ length vs = tried-length p in
-          follows-give lane ws (tried_to c bits p lane vs) old m w r (omega arith) room
-          (λ e. (few, give.0 lane _ _ (clear_at (tried_to c bits p lane vs) m e) few (lane-read lane ws (tried_to c bits p lane vs) x m m ex refl (old.holds e) (omega arith)) h))
+          let long : length (tried_to c pairs p lane vs) ≡ length vs = tried-length p in
+          follows-give lane ws (tried_to c pairs p lane vs) old m w r (omega arith) room
+          (λ e. (few, give.0 lane _ _ (clear_at (tried_to c pairs p lane vs) m e) few (lane-read lane ws (tried_to c pairs p lane vs) x m m ex refl (old.holds e) (omega arith)) h))
           (λ k. give.1 lane (conflict_as lane x _ ex k))
 
 -- ---- the rows of a pair's unit
-pub unit-fits : (c t states units bits : List ℕ) (j : Job) (p : ℕ) {count : ℕ} → ValidTest c t → JobOf c t j → PairsOf c t units bits count → p < count → L c t * F c ≤ length states
-    → (j.inputs * get_or units p 0 + j.inputs ≤ length t) × (j.flops * get_or units p 0 + j.flops ≤ length states)
-unit-fits c t states units bits j p v o pairs h l =
-    let u = get_or units p 0 in
-    let early : u < L c t = pairs.unit p h in (
-      rw (v.whole, o.inputs) (row_fits (I c) u (L c t) early),
-      rw o.flops (let z : F c * u + F c ≤ length states = omega (arith, row_fits (F c) u (L c t) early) in z),
-    )
-
-pub tried-none : (c bits : List ℕ) (lane : ℕ) (vs ws : List ℕ) → Follows lane ws vs → Follows lane ws (tried_to c bits 0 lane vs)
+pub tried-none : (c : List ℕ) (pairs : List Pair) (lane : ℕ) (vs ws : List ℕ) → Follows lane ws vs → Follows lane ws (tried_to c pairs 0 lane vs)
 unfolding tried_to
-tried-none c bits lane vs ws h = rw (le-ltb (lane / 2) 0 (omega arith)) h
-
-pub response_fits : (c t free units bits : List ℕ) (j : Job) (p : ℕ) {count : ℕ} → JobOf c t j → PairsOf c t units bits count → p < count → L c t * O c ≤ length free
-    → j.outputs * get_or units p 0 + j.outputs ≤ length free
-response_fits c t free units bits j p o pairs h l =
-    let early : get_or units p 0 < L c t = pairs.unit p h in
-    rw o.outputs (let z : O c * get_or units p 0 + O c ≤ length free = omega (arith, row_fits (O c) (get_or units p 0) (L c t) early) in z)
+tried-none c pairs lane vs ws h = rw (le-ltb (lane / 2) 0 (omega arith)) h
 
 -- ---- a word whose lanes from pair p on are another's
 module _ (lane found wanted more out p q : ℕ) (taken : bit lane out ≡ (bit lane found && not (bit lane wanted))) (from : bit lane wanted ≡ leb p q) where
@@ -212,6 +168,6 @@ implied-three c t f (suc u) i α h e =
     let same : suc u - 1 ≡ u = omega arith in
     rw same record { at = λ m. omega (arith, clear_at (implied_at c t f u i α) m (unmarked-clear c t f u i α e)) }
 
-pub tried-all : (c bits : List ℕ) (count lane : ℕ) (vs : List ℕ) → lane / 2 < count → tried_to c bits count lane vs ≡ give_line vs (pin_line c (flip_flop_line c (get_or bits (lane / 2) 0)) 1) (lane % 2)
+pub tried-all : (c : List ℕ) (pairs : List Pair) (count lane : ℕ) (vs : List ℕ) → lane / 2 < count → tried_to c pairs count lane vs ≡ give_line vs (pin_line c (flip_flop_line c (pair_of pairs (lane / 2)).bit) 1) (lane % 2)
 unfolding tried_to
-tried-all c bits count lane vs h = rw (lt-ltb (lane / 2) count h)
+tried-all c pairs count lane vs h = rw (lt-ltb (lane / 2) count h)

@@ -2,3 +2,4 @@
 pub mod Laws
 pub mod Plain
 pub mod Parity
+pub mod Gates

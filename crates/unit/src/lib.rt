@@ -12,6 +12,14 @@ ghost use Rattle.unit.specs.Unit.{StuckAt, Stuck, MaskRoom, pin_tabled, LineStor
 
 use lanes::Lanes;
 
+// The faults of the lanes: a byte a line, which tells its row, and 256 rows of five masks. The byte is 0 for a line with no fault: rows begin at 1, a
+// cleared array says that no line has one, and an `Option` of a byte would be two.
+#[derive(Clone, Copy)]
+pub struct GivenFaults<'a> {
+    pub hits: &'a [u8],
+    pub masks: &'a [u64],
+}
+
 // What is seen at a pin (0: the line itself) of a line with this row of masks, where x stands behind it.
 pub fn seen_at(masks: &[u64], row: usize, pin: usize, x: Lanes) -> Lanes
     requires { (MaskRoom masks.now) × (row < 256) × (pin < 5) }
@@ -33,7 +41,8 @@ pub fn pin_lanes(c: &[u8], masks: &[u64], words: &[u64], n: usize, p: usize, row
     seen_at(masks, row, p, lanes::read(words, m))
 }
 
-// Gate n, of kind k, by its record: of any kind, with a fault at it or none.
+// Gate n, of kind k (a number: see `combine` of lanes), by its record: of any kind, with a fault at it or none.
+#[tactic(auto, using(crate::proofs::Gates::gate_rules))]
 fn gate_lanes(c: &[u8], masks: &[u64], words: &[u64], n: usize, k: u8, row: usize) -> Lanes
     requires { (ValidCircuit c.now) × (n < N c.now) × (k ≡ kind c.now n) × (2 ≤ k) × (MaskRoom masks.now) × (row < 256) × (Room n words.now) }
     ensures { (t : ℕ) (f : Fault) (vs : List ℕ) → StuckAt t masks.now row f n → Lane t words.now vs → n ≤ length vs → Holds t result (gate k (pins_seen c.now f vs n)) }
@@ -64,11 +73,12 @@ fn free_pin(c: &[u8], pins: &[u16], words: &[u64], n: usize, i: usize) -> Lanes
     ensures { (t : ℕ) (f : Fault) (vs : List ℕ) → ((pin : ℕ) → is_stuck f n pin ≡ false) → Lane t words.now vs → n ≤ length vs
         → Holds t result (pin_tabled c.now f vs n (i + 1)) }
 {
-    lanes::read_turned(words, basics::wide16(pins[4 * n + i]))
+    lanes::read_turned(words, usize::from(pins[4 * n + i]))
 }
 
 // Gate n with no fault at it, of a kind k up to 7. All are one AND of four pins, which needs no test of kind or pin count: OR is, by
 // De Morgan, the inverse of the AND of its inverted pins.
+#[tactic(auto, using(crate::proofs::Gates::gate_rules))]
 fn and_gate(c: &[u8], pins: &[u16], words: &[u64], n: usize, k: u8) -> Lanes
     requires { (ValidCircuit c.now) × (n < N c.now) × (k ≡ kind c.now n) × (2 ≤ k) × (k ≤ 7) × (PinTable c.now pins.now) × (Room n words.now) }
     ensures { (t : ℕ) (f : Fault) (vs : List ℕ) → ((pin : ℕ) → is_stuck f n pin ≡ false) → Lane t words.now vs → n ≤ length vs
@@ -87,6 +97,7 @@ fn and_gate(c: &[u8], pins: &[u16], words: &[u64], n: usize, k: u8) -> Lanes
 
 // XOR or XNOR n with no fault at it. The first pin is read once, and once more for each pin that the gate does not have: where the gate has
 // an odd number of pins that is an even number of times, and the first pin is taken once more.
+#[tactic(auto, using(crate::proofs::Gates::gate_rules))]
 fn xor_gate(c: &[u8], pins: &[u16], words: &[u64], n: usize, k: u8) -> Lanes
     requires { (ValidCircuit c.now) × (n < N c.now) × (k ≡ kind c.now n) × (8 ≤ k) × (PinTable c.now pins.now) × (Room n words.now) }
     ensures { (t : ℕ) (f : Fault) (vs : List ℕ) → ((pin : ℕ) → is_stuck f n pin ≡ false) → Lane t words.now vs → n ≤ length vs
@@ -128,10 +139,8 @@ pub fn any_gate(
     requires { (ValidCircuit c.now) × (n < N c.now) × (k ≡ kind c.now n) × (2 ≤ k) × (PinTable c.now pins.now) × (MaskRoom masks.now) × (row < 256) × (Room n words.now) }
     ensures { (t : ℕ) (f : Fault) (vs : List ℕ) → StuckAt t masks.now row f n → Lane t words.now vs → n ≤ length vs → Holds t result (gate k (pins_seen c.now f vs n)) }
 {
-    if row == 0 {
-        if k <= 7 {
-            return and_gate(c, pins, words, n, k);
-        }
+    if row == 0 && k <= 7 {
+        return and_gate(c, pins, words, n, k);
     }
     gate_lanes(c, masks, words, n, k, row)
 }
@@ -154,8 +163,8 @@ fn behind_lanes(
         → Lane t words.now vs → length vs ≡ n → Holds t result (behind c.now f ins st vs n) }
 {
     match k {
-        0 => lanes::read(inputs, basics::wide16(pins[4 * n])),
-        1 => lanes::read(state, basics::wide16(pins[4 * n])),
+        0 => lanes::read(inputs, usize::from(pins[4 * n])),
+        1 => lanes::read(state, usize::from(pins[4 * n])),
         _ => gate_lanes(c, masks, words, n, k, row),
     }
 }
@@ -180,7 +189,7 @@ fn store_line(
     lanes::store(words, n, seen_at(masks, row, 0, x));
 }
 
-// The same. Most lines are gates with no fault at them, and these take the short way: no slice is lent on their account, and no value comes
+// The same by a second way. Most lines are gates with no fault at them, and these take the short one: no slice is lent on their account, and no value comes
 // back by memory.
 fn simulate_line(
     c: &[u8],
@@ -197,11 +206,9 @@ fn simulate_line(
         × (Room (I c.now) inputs.now) × (Room (F c.now) state.now) }
     ensures { LineStored c.now inputs.now state.now masks.now words.old words.new n row }
 {
-    if row == 0 {
-        if 2 <= k {
-            lanes::store(words, n, free_gate(c, pins, words, n, k));
-            return;
-        }
+    if row == 0 && 2 <= k {
+        lanes::store(words, n, free_gate(c, pins, words, n, k));
+        return;
     }
     store_line(c, pins, inputs, state, masks, words, n, k, row);
 }
@@ -213,21 +220,18 @@ pub fn simulate_unit(
     lines: usize,
     inputs: &[u64],
     state: &[u64],
-    hits: &[u8],
-    masks: &[u64],
+    given: &GivenFaults,
     words: &mut [u64],
 )
-    requires { (ValidCircuit c.now) × (PinTable c.now pins.now) × (lines ≡ N c.now) × (lines ≤ length hits.now) × (MaskRoom masks.now) × (Room lines words.old)
+    requires { (ValidCircuit c.now) × (PinTable c.now pins.now) × (lines ≡ N c.now) × (lines ≤ length given.now.hits.now) × (MaskRoom given.now.masks.now) × (Room lines words.old)
         × (Room (I c.now) inputs.now) × (Room (F c.now) state.now) }
-    ensures { (t : ℕ) (f : Fault) (ins st : List ℕ) → Stuck t hits.now masks.now f → Lane t inputs.now ins → length ins ≡ I c.now → Lane t state.now st → length st ≡ F c.now
+    ensures { (t : ℕ) (f : Fault) (ins st : List ℕ) → Stuck t given.now.hits.now given.now.masks.now f → Lane t inputs.now ins → length ins ≡ I c.now → Lane t state.now st → length st ≡ F c.now
         → Lane t words.new (line_values c.now f ins st) }
 {
-    let mut n: usize = 0;
-    while n < lines {
+    for n in 0..lines {
         let k = circuit::field(c, n, circuit::KIND);
-        let row = basics::wide(hits[n]);
-        simulate_line(c, pins, inputs, state, masks, words, n, k, row);
-        n += 1;
+        let row = usize::from(given.hits[n]);
+        simulate_line(c, pins, inputs, state, given.masks, words, n, k, row);
     }
 }
 
@@ -236,21 +240,18 @@ pub fn next_state(
     c: &[u8],
     flops: &[usize],
     count: usize,
-    hits: &[u8],
-    masks: &[u64],
+    given: &GivenFaults,
     words: &[u64],
     state: &mut [u64],
 )
-    requires { (ValidCircuit c.now) × (Listed (flip_flops c.now) flops.now) × (count ≡ F c.now) × (N c.now ≤ length hits.now) × (MaskRoom masks.now)
+    requires { (ValidCircuit c.now) × (Listed (flip_flops c.now) flops.now) × (count ≡ F c.now) × (N c.now ≤ length given.now.hits.now) × (MaskRoom given.now.masks.now)
         × (Room (N c.now) words.now) × (Room count state.old) }
-    ensures { (t : ℕ) (f : Fault) (vs : List ℕ) → Stuck t hits.now masks.now f → Lane t words.now vs → length vs ≡ N c.now
+    ensures { (t : ℕ) (f : Fault) (vs : List ℕ) → Stuck t given.now.hits.now given.now.masks.now f → Lane t words.now vs → length vs ≡ N c.now
         → Lane t state.new (next_state c.now f vs) }
 {
-    let mut s: usize = 0;
-    while s < count {
+    for s in 0..count {
         let n = flops[s];
-        let row = basics::wide(hits[n]);
-        lanes::store(state, s, pin_lanes(c, masks, words, n, 1, row));
-        s += 1;
+        let row = usize::from(given.hits[n]);
+        lanes::store(state, s, pin_lanes(c, given.masks, words, n, 1, row));
     }
 }

@@ -19,6 +19,7 @@ use Rattle.model.specs.Simulation.{next_state, plain_state, free_outputs}
 use Rattle.model.specs.Implication.{extra}
 use Rattle.model.specs.Expansion.{row_after, state_row}
 use Rattle.rows.proofs.Laws.{length-give_row}
+use Rattle.trial.specs.declared.Pair.{Pair}
 use Rattle.trial.proofs.Laws.{state-size}
 use Rattle.model.specs.Sequences.{touches, takes}
 use Rattle.model.specs.Choose.{size, smaller_extra, larger_extra}
@@ -136,6 +137,15 @@ module _ (c t : List ℕ) (f : Fault) (pairs : List (ℕ × ℕ)) (m : ℕ) (tim
     taken = new.taken;
   }
 
+-- what the byte of a position tells
+pub byte-known : (list : List ℕ) (e : ℕ) → (get_or list e 0 ≡ 2 → ⊥) → is_x list e ≡ false
+unfolding is_x
+byte-known list e h = ne_eqb _ _ h
+
+pub byte-unknown : (list : List ℕ) (e : ℕ) → get_or list e 0 ≡ 2 → is_x list e ≡ true
+unfolding is_x
+byte-unknown list e h = eq-eqb _ _ h
+
 -- a row of the state list has a place for each flip-flop
 length-after : (c t : List ℕ) (f : Fault) (u i : ℕ) → length (row_after c t f u i) ≡ F c
 unfolding row_after
@@ -224,10 +234,10 @@ pub entry-passed : {c t : List ℕ} {f : Fault} {pairs : List (ℕ × ℕ)} {m :
 entry-passed e table end room taken is made = record { written = lent_row 4 e table end _ room made ∙ ap (λ x. with_row 4 e x table) is; taken = taken }
 
 -- what a word says that is filled by the state list, with the sizes that code has
-pub word_as : (c t : List ℕ) (f : Fault) (free states list units bits hits masks : List ℕ) (width at next count marks : ℕ) (words after : List ℕ) → width ≡ F c → 0 < width → width ≤ at → next ≤ L c t * F c
-    → Filled width list units bits at next count → ((lane : ℕ) → lane < 64 → Stuck lane hits masks f) → Rows (F c) (L c t) states (λ u. plain_state c t f u) → Rows (O c) (L c t) free (λ u. free_outputs c t u)
-    → Tried c t free states units bits hits masks count marks words
+pub word_as : (c t : List ℕ) (f : Fault) (free states list : List ℕ) (pairs : List Pair) (hits masks : List ℕ) (width at next count marks : ℕ) (words after : List ℕ) → width ≡ F c → 0 < width → width ≤ at → next ≤ L c t * F c
+    → Filled width list pairs at next count → 32 ≤ length pairs → ((lane : ℕ) → lane < 64 → Stuck lane hits masks f) → Rows (F c) (L c t) states (λ u. plain_state c t f u) → Rows (O c) (L c t) free (λ u. free_outputs c t u)
+    → Tried c t free states (take count pairs) hits masks marks words
     → ((lane : ℕ) (f : Fault) (vs : List ℕ) → Stuck lane hits masks f → Lane lane words vs → length vs ≡ N c → Lane lane after (next_state c f vs)) → WordOf c t f list at next marks after
-word_as c t f free states list units bits hits masks width at next count marks words after es some first last filled stuck plain frees tried shown =
-    let own : Filled (F c) list units bits at next count = (rw es at filled) in
-    word_of c t list units bits at next count (omega arith) (omega arith) last own f free states hits masks marks words after stuck plain frees tried shown
+word_as c t f free states list pairs hits masks width at next count marks words after es some first last filled room stuck plain frees tried shown =
+    let own : Filled (F c) list pairs at next count = (rw es at filled) in
+    word_of c t list pairs at next count (omega arith) (omega arith) last own room f free states hits masks marks words after stuck plain frees tried shown

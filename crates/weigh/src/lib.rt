@@ -2,34 +2,19 @@
 // That is kept in a table, so that a pick works out no implication: after it only the pairs that it may touch are weighed again.
 #![tactic(auto)]
 
-ghost use Rattle.std.specs.Prelude.{◌≡◌, true, ◌+◌, ◌*◌, ◌/◌, ◌<◌, ◌≤◌, min, max, length};
+ghost use Rattle.std.specs.Prelude.{◌≡◌, true, ◌+◌, ◌*◌, ◌/◌, ◌<◌, ◌≤◌, length};
 ghost use Rattle.lists.specs.Field.{row_of};
 ghost use Rattle.model.specs.Inputs.{F, O, L};
 ghost use Rattle.model.specs.Choose.{size};
 ghost use Rattle.lanes.specs.Lane.{Room};
-ghost use Rattle.run.specs.Run.{Runnable};
+ghost use Rattle.run.specs.Run.{Runs};
 ghost use Rattle.expand.specs.Expand.{is_x, pair_at};
 ghost use Rattle.stages.specs.Stages.{RowRoom};
 ghost use Rattle.weigh.specs.Weigh.{UnitRows, EntryMade, WeighedAt, WeighedWord, WeighedFrom, WeighedFirst, WeighedStart};
 
-use job::Job;
+use run::Setup;
 use stages::{Times, Trials};
-
-// Two numbers, the smaller first.
-#[derive(Clone, Copy)]
-pub struct Sizes {
-    pub small: usize,
-    pub large: usize,
-}
-
-fn in_order(a: usize, b: usize) -> Sizes
-    ensures { (result.small ≡ min a b) × (result.large ≡ max a b) }
-{
-    if b < a {
-        return Sizes { small: b, large: a };
-    }
-    Sizes { small: a, large: b }
-}
+use unit::GivenFaults;
 
 // How many bits the extra in row r gives.
 fn row_size(count: usize, extras: &[u8], r: usize) -> usize
@@ -41,6 +26,7 @@ fn row_size(count: usize, extras: &[u8], r: usize) -> usize
     rows::specified(&extras[at..to], count)
 }
 
+// An entry of zeros is that of no pair: the table is a part of the work area, four bytes for each.
 // The entry of a pair at unit u, whose extras are in the rows of pair m, behind those of the pairs taken.
 fn enter(
     count: usize,
@@ -60,8 +46,7 @@ fn enter(
     }
     let zero = row_size(count, extras, 2 * m);
     let one = row_size(count, extras, 2 * m + 1);
-    let sizes = in_order(zero, one);
-    record::put_two(entry, sizes.small + 1, sizes.large);
+    record::put_two(entry, zero.min(one) + 1, zero.max(one));
 }
 
 // The entry of the pair at position e, which is pair p of a word if its bit is X in the state list.
@@ -113,14 +98,12 @@ fn weigh_word(
     ensures { WeighedWord count states.now list.now after.now marks at next m times.now extras.old table.old
         extras.new table.new }
 {
-    let mut p: usize = 0;
-    let mut e = at;
-    while e < next {
+    let mut p = 0;
+    for e in at..next {
         weigh_at(
             count, states, list, after, marks, p, e, m, times, extras, table,
         );
-        p += basics::one_if(list[e] == 2);
-        e += 1;
+        p += usize::from(list[e] == 2);
     }
 }
 
@@ -161,70 +144,71 @@ fn weigh_start(
     ensures { WeighedStart count list.now from to m times.now extras.old table.old
         extras.new table.new result }
 {
-    let end = in_order(count, to).small;
-    let mut i = from;
-    while i < end {
+    let end = count.min(to).max(from);
+    for i in from..end {
         weigh_first(count, list, i, m, times, extras, table);
-        i += 1;
     }
-    i
+    end
 }
 
-// The entries of the pairs from position `from` to `to`: those of unit 0, and then a word of up to 32 pairs after another.
+// The entries of the pairs from position `from` to `to`: those of unit 0, and then a word of up to 32 pairs after another. A word ends where it is
+// full, and not so many positions behind where it begins: hence no loop over a range.
 pub fn weigh(
-    c: &[u8],
-    job: Job,
-    t: &[u8],
+    setup: &Setup,
     free: &[u8],
     states: &[u8],
     list: &[u8],
     from: usize,
     to: usize,
     m: usize,
-    pins: &[u16],
-    flops: &[usize],
-    outs: &[usize],
-    hits: &[u8],
-    masks: &[u64],
+    given: &GivenFaults,
     feed: &mut [u64],
     words: &mut [u64],
     state: &mut [u64],
-    units: &mut Trials,
-    bits: &mut Trials,
+    pairs: &mut Trials,
     times: &Times,
     extras: &mut [u8],
     table: &mut [u8],
 )
-    requires { (Runnable c.now t.now job pins.now flops.now outs.now hits.now masks.now feed.old words.old state.old)
-        × (from ≤ to) × (to ≤ L c.now t.now * F c.now) × (m < 12) × (4 * to ≤ length table.old)
-        × (L c.now t.now * O c.now ≤ length free.now) × (RowRoom c.now t.now states.now) × (RowRoom c.now t.now list.now) × (24 * F c.now ≤ length extras.old) }
-    ensures { WeighedFrom c.now t.now free.now states.now list.now hits.now
-        masks.now from to m times.now extras.old table.old extras.new table.new }
+    requires { (Runs setup.now given.now.hits.now given.now.masks.now feed.old words.old state.old)
+        × (from ≤ to) × (to ≤ L setup.now.circuit.now setup.now.test.now * F setup.now.circuit.now) × (m < 12) × (4 * to ≤ length table.old)
+        × (L setup.now.circuit.now setup.now.test.now * O setup.now.circuit.now ≤ length free.now) × (RowRoom setup.now.circuit.now setup.now.test.now states.now) × (RowRoom setup.now.circuit.now setup.now.test.now list.now) × (24 * F setup.now.circuit.now ≤ length extras.old) }
+    ensures { WeighedFrom setup.now.circuit.now setup.now.test.now free.now states.now list.now given.now.hits.now
+        given.now.masks.now from to m times.now extras.old table.old extras.new table.new }
 {
-    let mut at = weigh_start(job.flops, list, from, to, m, times, extras, table);
+    let mut at = weigh_start(setup.job.flops, list, from, to, m, times, extras, table);
     while at < to {
-        let batch = expand::fill(job.flops, list, at, to, units, bits);
+        let batch = expand::fill(setup.job.flops, list, at, to, pairs);
         let marks = trial::try_pairs(
-            c,
-            job,
-            t,
+            setup,
             free,
             states,
-            units,
-            bits,
-            batch.count,
-            pins,
-            flops,
-            outs,
-            hits,
-            masks,
+            &pairs[..batch.count],
+            given,
             feed,
             words,
             state,
         );
-        unit::next_state(c, flops, job.flops, hits, masks, words, state);
+        unit::next_state(
+            setup.circuit,
+            setup.flops,
+            setup.job.flops,
+            given,
+            words,
+            state,
+        );
         weigh_word(
-            job.flops, states, list, state, marks, at, batch.next, m, times, extras, table,
+            setup.job.flops,
+            states,
+            list,
+            state,
+            marks,
+            at,
+            batch.next,
+            m,
+            times,
+            extras,
+            table,
         );
         at = batch.next;
     }

@@ -20,8 +20,3 @@ write_pack-requires c =
     let places = c.find_places-firsts.ensures in
     let of = packed_as c.next_pack-pack.ensures in
     (pre.0, pre.1, places.0, pre.3, pre.4, pre.5, pre.6, of.above, of.below, sieved-part of.below pre.8, pack-found of pre.0.tabled.sizes.units places.1)
-
-pub returns : goal.returns
-returns c =
-    let of = packed_as c.next_pack-pack.ensures in
-    (record { below = of.below; onward = of.onward }, c.write_pack.ensures)

@@ -1,5 +1,5 @@
 -- The records of the faults below j stand, what is behind them is as it was, and `lane` counts the marks that were there from `from` on.
-use Rattle.std.proofs.Common.{◌≡◌, ◌+◌, ◌-◌, ◌≤◌, List, ℕ}
+use Rattle.std.proofs.Common.{◌≡◌, ◌+◌, List, ℕ}
 use Rattle.model.specs.Inputs.{fault_at}
 use Rattle.model.specs.Grade.{grade}
 use Rattle.faults.specs.Given.{Blank}
@@ -10,11 +10,11 @@ use Rattle.batch.specs.Batch.{SameFrom}
 use Rattle.batch.proofs.write_pack.Given as goal
 
 abbrev pub invariant-loop-j : goal.invariant-loop-j
-invariant-loop-j l =
-    (l.from ≤ l.j) × (l.j ≤ l.to) × (Blank l.hits l.masks) × (Standing l.c l.t l.work)
-    × (marks_below l.initial.res l.from + l.lane ≡ marks_below l.initial.res l.j) × (SameFrom l.j l.initial.res l.res)
-    × ((old : List ℕ) → RecordsOf (λ j. grade l.c l.t (fault_at l.fs j) l.plan l.k) l.from old l.initial.res
-    → RecordsOf (λ j. grade l.c l.t (fault_at l.fs j) l.plan l.k) l.j old l.res)
-
-abbrev pub decreases-loop-j : goal.decreases-loop-j
-decreases-loop-j l = l.to - l.j
+invariant-loop-j l = record {
+  blank : Blank l.given.hits l.given.masks;
+  stands : Standing l.setup.circuit.now l.setup.test.now l.work;
+  counted : marks_below l.initial.res l.from + l.lane ≡ marks_below l.initial.res l.j;
+  behind : SameFrom l.j l.initial.res l.res;
+  records : (old : List ℕ) → RecordsOf (λ j. grade l.setup.circuit.now l.setup.test.now (fault_at l.fs j) l.plan l.k) l.from old l.initial.res
+      → RecordsOf (λ j. grade l.setup.circuit.now l.setup.test.now (fault_at l.fs j) l.plan l.k) l.j old l.res;
+}

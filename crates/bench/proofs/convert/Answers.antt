@@ -7,5 +7,5 @@ use Rattle.bench.proofs.convert.Goals as goal
 pub write-requires : goal.write-requires
 unfolding answer_of
 write-requires c =
-    let well_read = c.in-Done.ensures.promise _ refl in
+    let well_read = c.in-Ok.ensures.promise _ refl in
     omega (arith, (valid_circuit _ well_read.accepted).lines, well_read.size)

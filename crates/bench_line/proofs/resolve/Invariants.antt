@@ -1,5 +1,5 @@
 -- The first i pins name lines below `reach`, which are in `lines`.
-use Rattle.std.proofs.Common.{◌≡◌, ℕ, ◌-◌, ◌≤◌, ◌<◌, get_or, length, false}
+use Rattle.std.proofs.Common.{◌≡◌, ℕ, ◌<◌, get_or, false}
 use lib.Dec.{leb}
 use Rattle.lists.specs.Scan.{any_below}
 use Rattle.bench_line.specs.Pins.{pin_line_of}
@@ -7,11 +7,6 @@ use Rattle.bench_line.proofs.resolve.Given as goal
 
 abbrev pub invariant-loop-i : goal.invariant-loop-i
 invariant-loop-i l = record {
-  within : l.i ≤ l.pins;
-  room : length l.lines ≡ 4;
-  below : any_below (λ i. leb l.reach (pin_line_of l.text l.parts l.first i)) l.i ≡ false;
-  found : (k : ℕ) → k < l.i → get_or l.lines k 0 ≡ pin_line_of l.text l.parts l.first k;
+  below : any_below (λ i. leb l.reach (pin_line_of l.defined.text.now l.parts l.first i)) l.i ≡ false;
+  found : (k : ℕ) → k < l.i → get_or l.lines k 0 ≡ pin_line_of l.defined.text.now l.parts l.first k;
 }
-
-abbrev pub decreases-loop-i : goal.decreases-loop-i
-decreases-loop-i l = l.pins - l.i

@@ -19,7 +19,7 @@ returns c =
     let area = a.area.now in
     let lines = a.lines.now in
     let front = sets area 0 (a.kind ∷ a.pins ∷ get_or area 2 0 ∷ 0 ∷ []) in
-    let count = c.wide-count.ensures.0 in
+    let count = c.from-count.ensures in
     c.put16-4.ensures
     ∙ put lines 10 3 c.field-4.ensures count (c.put16-3.ensures
     ∙ put lines 8 2 c.field-3.ensures count (c.put16-2.ensures

@@ -2,7 +2,7 @@
 use mathlib.Core.Path.{◌≡◌}
 use mathlib.Core.List.{List}
 use mathlib.Core.Option.{Option}
-use Prim.Native.Nat.{ℕ, ◌+◌, ◌*◌, ◌-◌, ◌<◌, ◌≤◌}
+use Prim.Native.Nat.{ℕ, ◌+◌, ◌*◌, ◌<◌}
 use Rattle.model.specs.Inputs.{F, Fault}
 use Rattle.model.specs.Choose.{best_at}
 use Rattle.best.specs.Weights.{Weighed, merit}
@@ -11,9 +11,6 @@ use Rattle.best.proofs.best_at.Given as goal
 
 abbrev pub invariant-loop-i : goal.invariant-loop-i
 invariant-loop-i l =
-    (l.i ≤ l.size) × ((units : ℕ) → l.u < units → Inside units l.size l.initial.found → Inside units l.size l.found)
+    ((units : ℕ) → l.u < units → Inside units l.size l.initial.found → Inside units l.size l.found)
     × ((c t : List ℕ) (f : Fault) (pairs : List (ℕ × ℕ)) (o : Option (ℕ × ℕ)) → l.size ≡ F c → l.merit ≡ merit c t f l.u → Weighed c t f pairs (l.size * l.u) (l.size * l.u + l.size) l.table
     → Standing c t f o l.u 0 l.initial.found → Standing c t f (best_at c t f pairs l.u l.i o) l.u l.i l.found)
-
-abbrev pub decreases-loop-i : goal.decreases-loop-i
-decreases-loop-i l = l.size - l.i

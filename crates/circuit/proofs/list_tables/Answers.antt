@@ -2,11 +2,6 @@ use native.Mathlib.Omega.{arith}
 use Rattle.circuit.proofs.Laws.{flops-bytes, outputs-bytes, flops-listed, outputs-listed}
 use Rattle.circuit.proofs.list_tables.Goals as goal
 
-pub list_places-requires : goal.list_places-requires
-list_places-requires c =
-    let pre = c.requires in
-    (pre.0, pre.1, omega (arith, pre.2), c.list_pins.ensures)
-
 pub list_lines-requires : goal.list_lines-requires
 list_lines-requires c =
     let pre = c.requires in

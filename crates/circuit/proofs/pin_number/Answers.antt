@@ -6,7 +6,7 @@ use Rattle.model.specs.Inputs.{N, kind, pin_count, pin_line}
 use Rattle.model.specs.Accepted.{ValidCircuit}
 use Rattle.model.proofs.Implication.{gate-kind}
 use Rattle.circuit.specs.Table.{pin_read, is_or, pin_number}
-use Rattle.circuit.proofs.Laws.{is-gate, pin-read-has, pin-read-lower}
+use Rattle.circuit.proofs.Laws.{from_bool-le, from_bool-cond, is-gate, pin-read-has, pin-read-lower}
 use Rattle.circuit.proofs.pin_number.Goals.{After-pin_read-pin}
 use Rattle.circuit.proofs.pin_number.Goals as goal
 
@@ -38,8 +38,8 @@ pin_of-requires c = let r = pin-read-of c in let pre = c.requires in (omega (ari
 pub overflow_cast-result : goal.overflow_cast-result
 overflow_cast-result c =
     let pre = c.requires in
-    omega (arith, c.pin_of.ensures.0, c.one_if.ensures.1, pre.0.lines, pre.1, (pin-read-of (goal.at.overflow_cast-result c).After-pin_read-pin).low)
+    omega (arith, c.pin_of.ensures.0, c.from.ensures, from_bool-le, pre.0.lines, pre.1, (pin-read-of (goal.at.overflow_cast-result c).After-pin_read-pin).low)
 
 pub returns : goal.returns
 unfolding pin_number is_or
-returns c = λ g. rw (c.pin_of.ensures.0, c.one_if.ensures.0, c.pin_read-pin.ensures, c.pins_of.ensures.0, c.field-k.ensures.kind refl)
+returns c = λ g. rw (c.pin_of.ensures.0, c.from.ensures, from_bool-cond _, c.pin_read-pin.ensures, c.pins_of.ensures.0, c.field-k.ensures.kind refl)

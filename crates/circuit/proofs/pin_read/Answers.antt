@@ -7,6 +7,6 @@ pub returns-then-p-count : goal.returns-then-p-count
 unfolding pin_read
 returns-then-p-count c = rw (le-leb c.args.p c.args.count (omega arith))
 
-pub returns : goal.returns
+pub returns-else-p-count : goal.returns-else-p-count
 unfolding pin_read
-returns c = rw (lt-leb c.args.p c.args.count (omega arith))
+returns-else-p-count c = rw (lt-leb c.args.p c.args.count (omega arith))

@@ -14,7 +14,7 @@ returns-then-has_lane c = record {
 pub returns-then-not-has_lane : goal.returns-then-not-has_lane
 returns-then-not-has_lane c =
     let g = c.requires.0.tabled in
-    let unplaced : bit c.args.lane c.args.firsts.found ≡ false = sym c.has_lane.ensures ∙ c.if-has_lane.false in record {
+    let unplaced : bit c.args.lane c.args.firsts.now.found ≡ false = sym c.has_lane.ensures ∙ c.if-has_lane.false in record {
       verdict = λ known.
           c.placed-then-not-has_lane.ensures
           ∙ sym (graded-before _ _ _ _ _ _ (before_5 _ _ _ (open_first known refl unplaced) g.circuit g.test c.requires.6
@@ -25,7 +25,7 @@ returns-then-not-has_lane c =
 
 pub returns : goal.returns
 returns c =
-    let unplaced : bit c.args.lane c.args.firsts.found ≡ false = sym c.has_lane.ensures ∙ c.if-has_lane.false in
+    let unplaced : bit c.args.lane c.args.firsts.now.found ≡ false = sym c.has_lane.ensures ∙ c.if-has_lane.false in
     let done = c.settle.ensures in record {
       verdict = λ known. done.verdict (open_first known refl unplaced);
       blank = done.blank;

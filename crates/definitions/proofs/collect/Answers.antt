@@ -1,30 +1,30 @@
 use Rattle.std.proofs.Common.{◌≡◌, suc, ◌+◌, ◌≤◌, ◌<◌, length, refl, sym, ap, ◌∙◌, arith, rules}
-use Rattle.bench_text.specs.Text.{Part}
 use Rattle.bench_text.specs.Sentence.{sentence_from}
 use Rattle.bench_text.specs.Bench.{name_at}
 use Rattle.bench_text.proofs.Sentences.{line-name-ends}
+use Rattle.parts.proofs.Laws.{part-within}
+use Rattle.sentences.proofs.Laws.{defines-low, other-high}
 use Rattle.definitions.specs.Reached.{Reached}
 use Rattle.definitions.proofs.Laws.{reached-first, reached_as, reached-end, reached-passed, reached-defined, reached-name, reached-most, less-left, held_all}
-use Rattle.definitions.proofs.collect.Goals.{Else-line-gt9}
+use Rattle.definitions.proofs.collect.Goals.{In-Defines}
 use Rattle.definitions.proofs.collect.Goals as goal
 
 pub loop-at-init : goal.loop-at-init
-loop-at-init c = record { room = refl; held = c.requires; few = omega arith; all = λ h. refl; reached = (0, reached-first _); rest = (0, reached-first _) }
+loop-at-init c = record { held = c.requires; few = omega arith; all = λ h. refl; reached = (0, reached-first _); rest = (0, reached-first _) }
 
 -- less of the text is left
-pub loop-at-smaller-then-line-gt9 : goal.loop-at-smaller-then-line-gt9
-loop-at-smaller-then-line-gt9 c = less-left _ _ _ c.loop-at-test.true c.read_line-line.ensures.next
+pub loop-at-smaller-in_default : goal.loop-at-smaller-in_default
+loop-at-smaller-in_default c = less-left _ _ _ c.loop-at-test.true c.read_line-line.ensures.next
 
-pub loop-at-preserved-then-line-gt9 : goal.loop-at-preserved-then-line-gt9
-loop-at-preserved-then-line-gt9 c =
+pub loop-at-preserved-in_default : goal.loop-at-preserved-in_default
+loop-at-preserved-in_default c =
     let inv = c.loop-at.invariant in
     let told = c.read_line-line.ensures in
     record {
-      room = told.room;
       held = inv.held;
       few = inv.few;
       all = inv.all;
-      reached = (suc inv.reached.0, reached-passed _ _ _ _ inv.reached.1 c.loop-at-test.true _ told.next (rw (← told.tells.sort) (omega (arith, c.if-line-gt9.true))));
+      reached = (suc inv.reached.0, reached-passed _ _ _ _ inv.reached.1 c.loop-at-test.true _ told.next (other-high told.tells c.in_default.not-Defines));
       rest = inv.rest;
     }
 
@@ -35,11 +35,11 @@ overflow_add-lines c =
     search rules
 
 -- the text line defines a line
-line : (c : Else-line-gt9) → (sentence_from c.args.text.now c.loop-at.at).sort ≤ 9
-line c = rw (← c.read_line-line.ensures.tells.sort) (omega (arith, c.if-line-gt9.false))
+line : (c : In-Defines) → (sentence_from c.args.text.now c.loop-at.at).sort ≤ 9
+line c = defines-low c.read_line-line.ensures.tells _ c.in-Defines.is
 
 -- and the walk goes on behind it
-passed : (c : Else-line-gt9) → Reached c.args.text.now (suc c.loop-at.invariant.reached.0) c.read_line-line.result.next (c.loop-at.lines + 1)
+passed : (c : In-Defines) → Reached c.args.text.now (suc c.loop-at.invariant.reached.0) c.read_line-line.result.next (c.loop-at.lines + 1)
 passed c = reached-defined _ _ _ _ c.loop-at.invariant.reached.1 c.loop-at-test.true (line c) _ c.read_line-line.ensures.next
 
 pub loop-at-smaller-then-held-ge-HELD : goal.loop-at-smaller-then-held-ge-HELD
@@ -49,11 +49,10 @@ pub loop-at-preserved-then-held-ge-HELD : goal.loop-at-preserved-then-held-ge-HE
 loop-at-preserved-then-held-ge-HELD c =
     let inv = c.loop-at.invariant in
     record {
-      room = c.read_line-line.ensures.room;
       held = inv.held;
       few = omega (arith, inv.few);
       all = λ h. absurd (let z : ⊥ = omega (arith, c.if-held-ge-HELD.true) in z);
-      reached = (suc inv.reached.0, passed (goal.at.loop-at-preserved-then-held-ge-HELD c).Else-line-gt9);
+      reached = (suc inv.reached.0, passed (goal.at.loop-at-preserved-then-held-ge-HELD c).In-Defines);
       rest = inv.rest;
     }
 
@@ -65,21 +64,19 @@ hold-requires c =
     let told = c.read_line-line.ensures.tells in
     let all : c.loop-at.held ≡ c.loop-at.lines = inv.all (omega (arith, c.if-held-ge-HELD.false)) in
     let named : name_at text c.loop-at.held ≡ (sentence_from text c.loop-at.at).name =
-    ap (name_at text) all ∙ reached-name _ _ _ _ inv.reached.1 c.loop-at-test.true (line (goal.at.hold-requires c).Else-line-gt9) in
-    let at = told.at ∙ ap (λ (p : Part). p.at) (sym named) in
-    let size = told.size ∙ ap (λ (p : Part). p.size) (sym named) in
-    (inv.held, omega (arith, c.if-held-ge-HELD.false), at, size, omega (arith, at, size, line-name-ends text c.loop-at.held))
+    ap (name_at text) all ∙ reached-name _ _ _ _ inv.reached.1 c.loop-at-test.true (line (goal.at.hold-requires c).In-Defines) in
+    let same = told.name ∙ sym named in
+    (inv.held, omega (arith, c.if-held-ge-HELD.false), same, part-within text _ _ same (line-name-ends text c.loop-at.held))
 
 pub loop-at-smaller : goal.loop-at-smaller
 loop-at-smaller c = less-left _ _ _ c.loop-at-test.true c.read_line-line.ensures.next
 
 pub loop-at-preserved : goal.loop-at-preserved
 loop-at-preserved c =
-    let d = (goal.at.loop-at-preserved c).Else-line-gt9 in
+    let d = (goal.at.loop-at-preserved c).In-Defines in
     let inv = c.loop-at.invariant in
     let all : c.loop-at.held ≡ c.loop-at.lines = inv.all (omega (arith, c.if-held-ge-HELD.false)) in
     record {
-      room = c.read_line-line.ensures.room;
       held = c.hold.ensures;
       few = omega arith;
       all = λ h. ap (λ n. n + 1) all;

@@ -7,7 +7,6 @@ use Rattle.definitions.proofs.collect.Given as goal
 
 abbrev pub invariant-loop-at : goal.invariant-loop-at
 invariant-loop-at l = record {
-  room : length l.parts ≡ 32;
   held : Held l.text l.names l.heads l.held;
   few : l.held ≤ l.lines;
   all : l.held < 4096 → l.held ≡ l.lines;

@@ -1,60 +1,44 @@
-use Rattle.std.proofs.Common.{◌≡◌, suc, ◌+◌, ◌-◌, ◌≤◌, ◌<◌, length, take, drop, refl, sym, ap, ◌∙◌, arith, rules}
-use Rattle.bench_text.specs.Text.{Part, bytes_of, same}
+use Rattle.std.proofs.Common.{◌≡◌, suc, ◌≤◌, ◌<◌, length, sym, ap, ◌∙◌, arith, rules}
+use Rattle.bench_text.specs.Text.{bytes_of, same}
 use Rattle.bench_text.specs.Sentence.{sentence_from}
 use Rattle.bench_text.specs.Bench.{named}
 use Rattle.bench_text.proofs.Sentences.{name-ends}
+use Rattle.parts.proofs.Laws.{part-within}
+use Rattle.sentences.proofs.Laws.{defines-low, other-high}
 use Rattle.definitions.proofs.Laws.{less-left, reached-end, reached-passed, reached-defined, reached-below, reached-name, reached-most, none_more, line-found, line-missing}
 use Rattle.definitions.proofs.find_behind.Goals.{After-same}
 use Rattle.definitions.proofs.find_behind.Goals as goal
 
 pub loop-at-init : goal.loop-at-init
-loop-at-init c = record { room = refl; reached = c.requires.by_index_2; below = c.requires.by_index }
+loop-at-init c = record { reached = c.requires.by_index_2; below = c.requires.by_index }
 
 -- less of the text is left
-pub loop-at-smaller-then-said-gt9 : goal.loop-at-smaller-then-said-gt9
-loop-at-smaller-then-said-gt9 c = less-left _ _ _ c.loop-at-test.true c.read_line-said.ensures.next
+pub loop-at-smaller-in_default : goal.loop-at-smaller-in_default
+loop-at-smaller-in_default c = less-left _ _ _ c.loop-at-test.true c.read_line-said.ensures.next
 
-pub loop-at-preserved-then-said-gt9 : goal.loop-at-preserved-then-said-gt9
-loop-at-preserved-then-said-gt9 c =
+pub loop-at-preserved-in_default : goal.loop-at-preserved-in_default
+loop-at-preserved-in_default c =
     let inv = c.loop-at.invariant in
     let told = c.read_line-said.ensures in
     record {
-      room = told.room;
-      reached = (suc inv.reached.0, reached-passed _ _ _ _ inv.reached.1 c.loop-at-test.true _ told.next (rw (← told.tells.sort) c.if-said-gt9.true));
+      reached = (suc inv.reached.0, reached-passed _ _ _ _ inv.reached.1 c.loop-at-test.true _ told.next (other-high told.tells c.in_default.not-Defines));
       below = inv.below;
     }
 
 -- the name that the text line defines ends within the text
-pub overflow_add-end : goal.overflow_add-end
-overflow_add-end c =
-    let told = c.read_line-said.ensures.tells in
-    let within : c.read_line-said.result.at + c.read_line-said.result.size ≤ length c.args.text.now =
-    omega (arith, told.at, told.size, name-ends c.args.text.now c.loop-at.at) in
-    search rules
-
-pub slice_bounds-same-end : goal.slice_bounds-same-end
-slice_bounds-same-end c =
-    let told = c.read_line-said.ensures.tells in
-    omega (arith, told.at, told.size, name-ends c.args.text.now c.loop-at.at)
+pub bytes-requires : goal.bytes-requires
+bytes-requires c = part-within c.args.text.now _ _ c.read_line-said.ensures.tells.name (name-ends c.args.text.now c.loop-at.at)
 
 -- the text line defines a line
 line : (c : After-same) → (sentence_from c.args.text.now c.loop-at.at).sort ≤ 9
-line c = rw (← c.read_line-said.ensures.tells.sort) (omega (arith, c.if-said-gt9.false))
+line c = defines-low c.read_line-said.ensures.tells _ c.in-Defines.is
 
 -- and whether it has the name was asked
 asked : (c : After-same) → c.same.result ≡ named c.args.text.now c.args.name.now c.loop-at.line
-unfolding named bytes_of
+unfolding named
 asked c =
-    let text = c.args.text.now in
-    let name = c.args.name.now in
-    let r = c.read_line-said.result in
-    let told = c.read_line-said.ensures.tells in
-    let size : r.at + r.size - r.at ≡ r.size = omega arith in
     let here = reached-name _ _ _ _ c.loop-at.invariant.reached.1 c.loop-at-test.true (line c) in
-    c.same.ensures
-    ∙ ap (λ n. same (take n (drop r.at text)) name) (size ∙ told.size)
-    ∙ ap (λ n. same (take (sentence_from text c.loop-at.at).name.size (drop n text)) name) told.at
-    ∙ ap (λ (p : Part). same (take p.size (drop p.at text)) name) (sym here)
+    c.same.ensures ∙ ap (λ b. same b c.args.name.now) (c.bytes.ensures.bytes ∙ ap (bytes_of c.args.text.now) (c.read_line-said.ensures.tells.name ∙ sym here))
 
 pub returns-then-same : goal.returns-then-same
 returns-then-same c =
@@ -77,7 +61,6 @@ loop-at-preserved c =
     let inv = c.loop-at.invariant in
     let told = c.read_line-said.ensures in
     record {
-      room = told.room;
       reached = (suc inv.reached.0, reached-defined _ _ _ _ inv.reached.1 c.loop-at-test.true (line d) _ told.next);
       below = none_more c.args.text.now c.args.name.now c.loop-at.line inv.below (sym (asked d) ∙ c.if-same.false);
     }

@@ -6,7 +6,6 @@ use Rattle.definitions.proofs.find_behind.Given as goal
 
 abbrev pub invariant-loop-at : goal.invariant-loop-at
 invariant-loop-at l = record {
-  room : length l.parts ≡ 32;
   reached : (j : ℕ) × Reached l.text j l.at l.line;
   below : (m : ℕ) → m < l.line → named l.text l.name m ≡ false;
 }

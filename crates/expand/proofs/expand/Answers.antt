@@ -1,11 +1,11 @@
-use Rattle.std.proofs.Common.{◌≡◌, ◌*◌, ◌<◌, ◌≤◌, ◌+◌, ℕ, List, cond, arith, ltb, length}
-use native.Mathlib.Nat.{mul-le-mul}
+use Rattle.std.proofs.Common.{refl, sym, ◌∙◌, ◌≡◌, ◌*◌, ◌<◌, ◌≤◌, ◌+◌, ℕ, List, cond, arith, ltb, length}
 use Rattle.model.specs.Inputs.{F, L, Fault}
 use Rattle.job.specs.declared.Job.{Job}
 use Rattle.run.specs.Run.{Runnable}
 use Rattle.run.proofs.Laws.{runnable-again}
 use Rattle.expand.specs.Expand.{Ready, TriedTo}
 use Rattle.expand.proofs.Begin.{end-bounds, end_as, product_as, factor-some, tried-to, walk-begun, walk-met, walk-last}
+use Rattle.expand.proofs.Steps.{one-only}
 use Rattle.expand.proofs.Tries.{pairs_as, room_as, settling_of}
 use Rattle.expand.proofs.expand.Goals as goal
 
@@ -29,15 +29,6 @@ module _ {c t : List ℕ} {job : Job} {pins flops outs hits masks feed words sta
   width : (left end at : ℕ) → end ≡ job.flops * cond (ltb left job.units) (left + 1) job.units → at < end → 0 < job.flops
   width left end at ends below = factor-some job.flops job.units at (omega (arith, below, (bounds left end ends).1))
 
-pub overflow_mul-none : goal.overflow_mul-none
-overflow_mul-none c = let few = small c.requires.0 in omega (arith, mul-le-mul few.0 few.1)
-
-pub walk_end-end-requires : goal.walk_end-end-requires
-walk_end-end-requires c = small c.requires.0
-
-pub copy_row-requires : goal.copy_row-requires
-copy_row-requires c = (omega (arith, total c.requires.0, c.requires.2), omega (arith, total c.requires.0, c.requires.3))
-
 pub loop-at-init : goal.loop-at-init
 loop-at-init c =
     let run = c.requires.0 in
@@ -45,7 +36,8 @@ loop-at-init c =
       begun = omega arith;
       within = ends.0;
       walked = λ f ready.
-          walk-begun _ _ f _ _ _ _ _ _ run.test ready.fault ready.plain run.sizes.flops (omega (arith, ends.0, ends.1, total run)) (tries run _ _ _ _ c.walk_end-end.ensures c.requires.2 f ready).before (total run) c.requires.2 c.copy_row.ensures;
+          walk-begun _ _ f _ _ _ _ _ run.test ready.fault ready.plain run.sizes.flops (omega (arith, ends.0, ends.1, total run)) (tries run _ _ _ _ c.walk_end-end.ensures c.requires.2 f ready).before (total run) c.requires.2 c.copy_row.ensures;
+      met = record { both = λ p h. one-only h refl; opposed = λ p h. one-only h refl };
     }
 
 -- a word is filled: the pairs are pairs of the job
@@ -57,61 +49,48 @@ fill-batch-requires c =
       c.loop-at-test.true,
       omega (arith, (bounds run _ _ c.walk_end-end.ensures).1, total run, c.requires.2),
       omega (arith, c.requires.4),
-      omega (arith, c.requires.5),
     )
 
 pub try_pairs-marks-requires : goal.try_pairs-marks-requires
 try_pairs-marks-requires c =
     let run = c.requires.0 in
-    let last : c.fill-batch.result.next ≤ L c.args.c.now c.args.t.now * F c.args.c.now = omega (arith, c.fill-batch.ensures.2, (bounds run _ _ c.walk_end-end.ensures).1, total run) in (
+    let last : c.fill-batch.result.next ≤ L c.args.setup.now.circuit.now c.args.setup.now.test.now * F c.args.setup.now.circuit.now = omega (arith, c.fill-batch.ensures.2, (bounds run _ _ c.walk_end-end.ensures).1, total run) in (
       runnable-again _ _ _ run c.loop-at.auto.feed c.loop-at.auto.words c.loop-at.auto.state,
-      pairs_as c.args.c.now c.args.t.now _ _ _ _ _ _ _ run.sizes.flops (width run _ _ _ c.walk_end-end.ensures c.loop-at-test.true) c.loop-at.invariant.begun last c.fill-batch.ensures.0
-          (omega (arith, c.requires.4))
-          (omega (arith, c.requires.5)),
+      pairs_as c.args.setup.now.circuit.now c.args.setup.now.test.now _ _ _ _ _ _ run.sizes.flops (width run _ _ _ c.walk_end-end.ensures c.loop-at-test.true) c.loop-at.invariant.begun last c.fill-batch.ensures.0
+          (omega (arith, c.requires.4)),
       c.requires.1,
       c.requires.2,
-    )
-
-pub next_state-requires : goal.next_state-requires
-next_state-requires c =
-    let run = c.requires.0 in (
-      run.circuit,
-      run.tables.flop_table,
-      run.sizes.flops,
-      run.hit_room,
-      run.mask_room,
-      omega (arith, run.line_room),
-      omega (arith, run.state_room, run.sizes.flops),
     )
 
 pub settle-walk-requires : goal.settle-walk-requires
 settle-walk-requires c =
     let run = c.requires.0 in
     let fill = c.fill-batch.ensures in
-    let last : c.fill-batch.result.next ≤ L c.args.c.now c.args.t.now * F c.args.c.now = omega (arith, fill.2, (bounds run _ _ c.walk_end-end.ensures).1, total run) in (
+    let last : c.fill-batch.result.next ≤ L c.args.setup.now.circuit.now c.args.setup.now.test.now * F c.args.setup.now.circuit.now = omega (arith, fill.2, (bounds run _ _ c.walk_end-end.ensures).1, total run) in (
       omega (arith, last, c.requires.2),
       omega (arith, fill.0.few, fill.0.all),
       omega (arith, c.requires.4),
       omega (arith, fill.1),
       (λ e h l x.
-          let room = room_as c.args.c.now c.args.t.now _ _ _ _ _ _ _ run.sizes.flops (width run _ _ _ c.walk_end-end.ensures c.loop-at-test.true) c.loop-at.invariant.begun last fill.0 e h l x run.test.most in
+          let room = room_as c.args.setup.now.circuit.now c.args.setup.now.test.now _ _ _ _ _ _ run.sizes.flops (width run _ _ _ c.walk_end-end.ensures c.loop-at-test.true) c.loop-at.invariant.begun last fill.0 e h l x run.test.most in
           let states = room c.args.states.now c.requires.2 in
           let list = room c.loop-at.list (omega (arith, c.requires.3)) in
           (states.0, states.1, list.1)),
       omega (arith, run.state_room, run.sizes.flops),
-      omega (arith, c.requires.6, (small run).0),
+      omega (arith, c.requires.5, (small run).0),
     )
 
-pub returns-then-walk-none : goal.returns-then-walk-none
-returns-then-walk-none c =
+pub returns-then-is_some : goal.returns-then-is_some
+returns-then-is_some c =
     let run = c.requires.0 in
     let fill = c.fill-batch.ensures in record {
       walked = λ f ready.
-          walk-met _ _ f _ _ _ _ (total run) c.if-walk-none.true
-          (c.settle-walk.ensures _ _ f _
-          (settling_of _ _ _ _ _ _ _ _ _ f _ _ _ _ _ _ _ _ _ run.test ready run.sizes.flops (width run _ _ _ c.walk_end-end.ensures c.loop-at-test.true) c.loop-at.invariant.begun fill.2 (total run)
-          (tries run _ _ _ _ c.walk_end-end.ensures c.requires.2 f ready) fill.0 c.try_pairs-marks.ensures c.next_state.ensures)
+          walk-met _ _ f _ _ _ (sym c.is_some.ensures ∙ c.if-is_some.true)
+          (c.settle-walk.ensures.walked _ _ f _
+          (settling_of _ _ _ _ _ _ _ _ f _ _ _ _ _ _ _ _ run.test ready run.sizes.flops (width run _ _ _ c.walk_end-end.ensures c.loop-at-test.true) c.loop-at.invariant.begun fill.2
+          (tries run _ _ _ _ c.walk_end-end.ensures c.requires.2 f ready) fill.0 (omega (arith, c.requires.4)) c.try_pairs-marks.ensures c.next_state.ensures)
           (omega (arith, c.requires.3)) (c.loop-at.invariant.walked f ready));
+      met = c.settle-walk.ensures.met _ (omega (arith, fill.2, (bounds run _ _ c.walk_end-end.ensures).1, total run)) c.loop-at.invariant.met;
     }
 
 pub loop-at-preserved : goal.loop-at-preserved
@@ -121,15 +100,17 @@ loop-at-preserved c =
       begun = omega (arith, fill.1, c.loop-at.invariant.begun);
       within = fill.2;
       walked = λ f ready.
-          c.settle-walk.ensures _ _ f _
-          (settling_of _ _ _ _ _ _ _ _ _ f _ _ _ _ _ _ _ _ _ run.test ready run.sizes.flops (width run _ _ _ c.walk_end-end.ensures c.loop-at-test.true) c.loop-at.invariant.begun fill.2 (total run)
-          (tries run _ _ _ _ c.walk_end-end.ensures c.requires.2 f ready) fill.0 c.try_pairs-marks.ensures c.next_state.ensures)
+          c.settle-walk.ensures.walked _ _ f _
+          (settling_of _ _ _ _ _ _ _ _ f _ _ _ _ _ _ _ _ run.test ready run.sizes.flops (width run _ _ _ c.walk_end-end.ensures c.loop-at-test.true) c.loop-at.invariant.begun fill.2
+          (tries run _ _ _ _ c.walk_end-end.ensures c.requires.2 f ready) fill.0 (omega (arith, c.requires.4)) c.try_pairs-marks.ensures c.next_state.ensures)
           (omega (arith, c.requires.3)) (c.loop-at.invariant.walked f ready);
+      met = c.settle-walk.ensures.met _ (omega (arith, fill.2, (bounds run _ _ c.walk_end-end.ensures).1, total run)) c.loop-at.invariant.met;
     }
 
 pub returns : goal.returns
 returns c = record {
   walked = λ f ready.
       let here : c.loop-at.at ≡ c.walk_end-end.result = omega (arith, c.loop-at.invariant.within, c.loop-at-test.false) in
-      walk-last _ _ f _ _ _ _ _ _ (total c.requires.0) here (tries c.requires.0 _ _ _ _ c.walk_end-end.ensures c.requires.2 f ready) (c.loop-at.invariant.walked f ready);
+      walk-last _ _ f _ _ _ _ _ here (tries c.requires.0 _ _ _ _ c.walk_end-end.ensures c.requires.2 f ready) (c.loop-at.invariant.walked f ready);
+  met = c.loop-at.invariant.met;
 }

@@ -2,7 +2,7 @@ use mathlib.Core.Path.{◌≡◌, refl, sym, ap, ◌∙◌}
 use Prim.Native.Nat.{suc, ◌+◌, ◌%◌, ◌≤◌}
 use native.Mathlib.Numerals.{add-one}
 use native.Mathlib.Omega.{arith}
-use lib.ListN.{get_or, length, length-set}
+use lib.ListN.{get_or, length}
 use Rattle.lists.proofs.Scan.{length-tabulate, get_or_tabulate}
 use Rattle.lists.proofs.Field.{overwritten-none, row_more, row-all}
 use Rattle.model.specs.Generate.{step, stepped, generate_byte}
@@ -12,7 +12,7 @@ use Rattle.generate.proofs.fill.Goals as goal
 
 -- there is room for the byte
 room : (c : After-step-x) → suc c.loop-b.b ≤ length c.loop-b.res
-room c = omega (arith, c.loop-b-test.true, c.loop-b.invariant.2, c.requires)
+room c = omega (arith, c.loop-b-test.true, c.requires)
 
 -- the number is that after one step more
 next : (c : After-step-x) → c.step-x.result ≡ stepped c.args.seed (suc c.loop-b.b)
@@ -30,21 +30,19 @@ byte c =
 
 pub loop-b-init : goal.loop-b-init
 unfolding stepped
-loop-b-init c = (refl, omega arith, refl, sym (overwritten-none _))
+loop-b-init c = (refl, sym (overwritten-none _))
 
 pub loop-b-preserved : goal.loop-b-preserved
 loop-b-preserved c =
     let s = c.args in
     let inv = c.loop-b.invariant in
     let taken = c.loop-b-test.true in (
-      rw (add-one c.loop-b.b) (next c),
-      omega (arith, taken),
-      rw length-set inv.2,
-      row_more (bytes s.seed s.size) _ _ _ c.loop-b.b _ 0 refl (byte c) (rw length-tabulate taken) (omega (arith, taken, c.requires)) inv.3,
+      rw (add-one c.loop-b.b) (next (goal.at.loop-b-preserved c).After-step-x),
+      row_more (bytes s.seed s.size) _ _ _ c.loop-b.b _ 0 refl (byte (goal.at.loop-b-preserved c).After-step-x) (rw length-tabulate taken) (omega (arith, taken, c.requires)) inv.1,
     )
 
 pub returns : goal.returns
 returns c =
     let s = c.args in
     let inv = c.loop-b.invariant in
-    row-all (bytes s.seed s.size) _ _ c.loop-b.b (rw length-tabulate (omega (arith, inv.1, c.loop-b-test.false))) inv.3
+    row-all (bytes s.seed s.size) _ _ c.loop-b.b (rw length-tabulate (omega arith)) inv.1

@@ -1,8 +1,8 @@
 -- x is the number after b steps, and the first b bytes are written.
 use mathlib.Core.Path.{◌≡◌}
 use mathlib.Core.List.{List}
-use Prim.Native.Nat.{ℕ, ◌-◌, ◌≤◌}
-use lib.ListN.{length, take}
+use Prim.Native.Nat.{ℕ}
+use lib.ListN.{take}
 use Rattle.lists.specs.Scan.{tabulate}
 use Rattle.lists.specs.Field.{overwritten}
 use Rattle.model.specs.Generate.{stepped, generate_byte}
@@ -12,8 +12,4 @@ abbrev pub bytes : ℕ → ℕ → List ℕ
 bytes seed size = tabulate (λ b. generate_byte seed b) 0 size
 
 abbrev pub invariant-loop-b : goal.invariant-loop-b
-invariant-loop-b l =
-    (l.x ≡ stepped l.seed l.b) × (l.b ≤ l.size) × (length l.res ≡ length l.initial.res) × (l.res ≡ overwritten (take l.b (bytes l.seed l.size)) l.initial.res)
-
-abbrev pub decreases-loop-b : goal.decreases-loop-b
-decreases-loop-b l = l.size - l.b
+invariant-loop-b l = (l.x ≡ stepped l.seed l.b) × (l.res ≡ overwritten (take l.b (bytes l.seed l.size)) l.initial.res)

@@ -17,19 +17,9 @@ not_yet seed n before here m low high = elim (dec_le (suc m) n) [
 
 pub loop-n-init : goal.loop-n-init
 unfolding stepped
-loop-n-init c = record {
-  some = omega arith;
-  most = omega arith;
-  after = c.step-x.ensures;
-  first = λ m low high. absurd (let z : ⊥ = omega arith in z);
-}
+loop-n-init c = (c.step-x.ensures, λ m low high. absurd (let z : ⊥ = omega arith in z))
 
 pub loop-n-preserved : goal.loop-n-preserved
 loop-n-preserved c =
     let inv = c.loop-n.invariant in
-    rw (add-one c.loop-n.n) (record {
-      some = omega arith;
-      most = omega (arith, c.loop-n-test.true);
-      after = further _ _ _ _ inv.after c.step-x-in-loop-n.ensures;
-      first = not_yet _ _ inv.first (λ e. c.if-x-seed.false (inv.after ∙ e));
-    })
+    rw (add-one c.loop-n.n) (further _ _ _ _ inv.0 c.step-x-in-loop-n.ensures, not_yet _ _ inv.1 (λ e. c.if-x-seed.false (inv.0 ∙ e)))

@@ -3,16 +3,16 @@ use Rattle.grade.proofs.grade.Goals as goal
 
 pub returns-then-work-le65536 : goal.returns-then-work-le65536
 returns-then-work-le65536 c =
-    let done = c.grade_with.ensures in record {
+    let done = c.grade_in.ensures in record {
       answers = done.answers;
       writes = done.writes;
       keeps = done.keeps;
       promise = promised _ _ _ _ _ _ c.args.res.now _ done.writes;
     }
 
-pub returns : goal.returns
-returns c =
-    let done = c.grade_with-2.ensures in record {
+pub returns-else-work-le65536 : goal.returns-else-work-le65536
+returns-else-work-le65536 c =
+    let done = c.grade_in-else-work-le65536.ensures in record {
       answers = done.answers;
       writes = done.writes;
       keeps = done.keeps;

@@ -10,8 +10,8 @@ use Rattle.grade.proofs.grade_list.Given as goal
 
 abbrev pub invariant-loop-from : goal.invariant-loop-from
 invariant-loop-from l =
-    (l.from ≤ fault_count l.fs) × (Blank l.hits l.masks) × (Standing l.c l.t l.work)
-    × (Sieved l.c l.t l.fs l.from (fault_count l.fs) l.res) × (RecordsOf (λ j. grade l.c l.t (fault_at l.fs j) l.plan l.k) l.from l.initial.res l.res)
+    (l.from ≤ fault_count l.fs) × (Blank l.given.hits l.given.masks) × (Standing l.setup.circuit.now l.setup.test.now l.work)
+    × (Sieved l.setup.circuit.now l.setup.test.now l.fs l.from (fault_count l.fs) l.res) × (RecordsOf (λ j. grade l.setup.circuit.now l.setup.test.now (fault_at l.fs j) l.plan l.k) l.from l.initial.res l.res)
 
 abbrev pub decreases-loop-from : goal.decreases-loop-from
 decreases-loop-from l = l.count - l.from

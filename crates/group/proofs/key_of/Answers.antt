@@ -7,5 +7,5 @@ unfolding record_at
 returns c =
     let line = c.word_at-line.ensures in
     let time = c.word_at-time.ensures in
-    let verdict = c.wide-verdict.ensures in
-    record { verdict = omega (arith, verdict.0, verdict.1); time = omega (arith, time.0, time.1); sum = omega (arith, verdict.0, time.0, line.0) }
+    let verdict = c.from-verdict.ensures in
+    record { verdict = omega arith; time = omega (arith, time.0, time.1); sum = omega (arith, verdict, time.0, line.0) }

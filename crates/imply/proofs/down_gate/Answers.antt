@@ -41,20 +41,20 @@ arm c words' given = record {
       step_down t words' _ f vs _ (is-gate _ _ _ c.requires.kind c.requires.gate) (λ a few is. given.lane t f vs a stuck long few (value c t f vs stuck long old a is) old);
 }
 
-pub down_one-requires : goal.down_one-requires
-down_one-requires c =
+pub down_pins-requires-in-0-to-1 : goal.down_pins-requires-in-0-to-1
+down_pins-requires-in-0-to-1 c =
     let some = c.requires.circuit.pinned _ c.requires.line (is-gate _ _ _ c.requires.kind c.requires.gate) in
     let one : pin_count c.args.c.now c.args.n ≡ 1 = omega (arith, c.pins_of-pins.ensures.0, some) in
-    (c.requires, one, alone (goal.at.down_one-requires c).Start one)
+    (c.requires, one, λ _. alone (goal.at.down_pins-requires-in-0-to-1 c).Start one)
 
 pub returns-in-0-to-1 : goal.returns-in-0-to-1
-returns-in-0-to-1 c = arm (goal.at.returns-in-0-to-1 c).After-pins_of-pins _ c.down_one.ensures
+returns-in-0-to-1 c = arm (goal.at.returns-in-0-to-1 c).After-pins_of-pins _ c.down_pins-in-0-to-1.ensures
 
 pub returns-in-2 : goal.returns-in-2
-returns-in-2 c = arm (goal.at.returns-in-2 c).After-pins_of-pins _ c.down_two.ensures
+returns-in-2 c = arm (goal.at.returns-in-2 c).After-pins_of-pins _ c.down_pins.ensures
 
 pub returns-in-3 : goal.returns-in-3
-returns-in-3 c = arm (goal.at.returns-in-3 c).After-pins_of-pins _ c.down_three.ensures
+returns-in-3 c = arm (goal.at.returns-in-3 c).After-pins_of-pins _ c.down_pins-in-3.ensures
 
 pub returns-in_default : goal.returns-in_default
-returns-in_default c = arm (goal.at.returns-in_default c).After-pins_of-pins _ c.down_four.ensures
+returns-in_default c = arm (goal.at.returns-in_default c).After-pins_of-pins _ c.down_pins-in_default.ensures

@@ -1,7 +1,7 @@
 -- The values follow, in each lane, the steps up of the lines below n.
 use mathlib.Core.Path.{◌≡◌}
 use mathlib.Core.List.{List}
-use Prim.Native.Nat.{ℕ, ◌-◌, ◌≤◌}
+use Prim.Native.Nat.{ℕ}
 use lib.ListN.{length}
 use Rattle.model.specs.Inputs.{N, Fault}
 use Rattle.model.specs.Implication.{up}
@@ -10,9 +10,4 @@ use Rattle.unit.specs.Unit.{Stuck}
 use Rattle.imply.proofs.up_pass.Given as goal
 
 abbrev pub invariant-loop-n : goal.invariant-loop-n
-invariant-loop-n l =
-    (l.n ≤ l.lines) × (length l.words ≡ length l.initial.words)
-    × ((t : ℕ) (f : Fault) (vs : List ℕ) → Stuck t l.hits l.masks f → length vs ≡ N l.c → Follows t l.initial.words vs → Follows t l.words (up l.c f l.n vs))
-
-abbrev pub decreases-loop-n : goal.decreases-loop-n
-decreases-loop-n l = l.lines - l.n
+invariant-loop-n l = (t : ℕ) (f : Fault) (vs : List ℕ) → Stuck t l.given.hits.now l.given.masks.now f → length vs ≡ N l.c → Follows t l.initial.words vs → Follows t l.words (up l.c f l.n vs)

@@ -1,27 +1,28 @@
 use mathlib.Core.Path.{◌≡◌, refl, sym}
 use native.Mathlib.Omega.{arith}
 use lib.ListN.{length}
-use borrow.Author.Tests.{lt-ltb, le-ltb}
+use Rattle.std.proofs.lemmas.Result.{err_from_is_err_and}
 use Rattle.lists.specs.Scan.{first_answer}
 use Rattle.lists.proofs.Scan.{first_answer-turn, first_answer-stop}
-use Rattle.model.specs.Refusals.{refuse, row8}
+use Rattle.model.specs.Refusals.{row8}
 use Rattle.rules.specs.Check.{refusal_of}
+use Rattle.rules.proofs.Laws.{ended}
 use Rattle.job.proofs.check_bytes.Goals as goal
 
 pub loop-b-init : goal.loop-b-init
 unfolding first_answer
-loop-b-init c = (omega arith, refl)
+loop-b-init c = refl
 
-pub returns-then-t-b-gt1 : goal.returns-then-t-b-gt1
-unfolding refusal_of refuse row8
-returns-then-t-b-gt1 c =
-    sym (first_answer-stop _ _ _ _ c.loop-b.invariant.1 (rw (lt-ltb _ _ c.if-t-b-gt1.true)) c.loop-b-test.true)
+pub returns-in_err-refuse : goal.returns-in_err-refuse
+unfolding refusal_of row8
+returns-in_err-refuse c =
+    ended (err_from_is_err_and c.from_residual.result c.from_residual.ensures.1)
+    (sym (first_answer-stop _ _ _ _ c.loop-b.invariant (sym c.in_err-refuse.ensures) c.loop-b-test.true))
 
 pub loop-b-preserved : goal.loop-b-preserved
-unfolding refuse
-loop-b-preserved c =
-    (omega arith, first_answer-turn _ _ c.loop-b.invariant.1 (rw (le-ltb _ _ c.if-t-b-gt1.false)))
+unfolding refusal_of
+loop-b-preserved c = first_answer-turn _ _ c.loop-b.invariant (sym c.in_ok-refuse.ensures)
 
 pub returns : goal.returns
 unfolding refusal_of row8
-returns c = let end : length c.args.t.now ≡ c.loop-b.b = omega arith in rw end (sym c.loop-b.invariant.1)
+returns c = let end : length c.args.t.now ≡ c.loop-b.b = omega arith in rw end (sym c.loop-b.invariant)

@@ -1,36 +1,51 @@
-use mathlib.Core.Path.{◌≡◌}
-use mathlib.Core.Option.{none}
+use mathlib.Core.Path.{refl, sym}
 use native.Mathlib.Omega.{arith}
 use borrow.Author.Tests.{ltb-false}
-use Rattle.lists.specs.Scan.{◌else◌}
-use mathlib.Mathlib.Data.Option.Basic.{or_else-eq-none}
-use Rattle.model.specs.Refusals.{row12, input_rows, choose_refusal}
+use Rattle.std.proofs.lemmas.Result.{err_from_is_err_and}
+use Rattle.model.specs.Refusals.{row12, choose_refusal}
 use Rattle.model.proofs.Accepted.{refuse-none, valid_inputs}
-use Rattle.job.specs.Job.{JobChecked}
-use Rattle.job.proofs.Laws.{ready-none, stays_broken, joined, joined-ready, regrouped, limited}
-use Rattle.job.proofs.check_choose.Goals.{In-Ready}
+use Rattle.rules.specs.Check.{refusal_of}
+use Rattle.rules.proofs.Laws.{ended, ended_early, went_on}
+use Rattle.job.specs.Job.{JobOf}
+use Rattle.job.proofs.Laws.{is-ready, is_broken, limited}
+use Rattle.job.proofs.check_choose.Goals.{In_ok-job}
 use Rattle.job.proofs.check_choose.Goals as goal
 
-checked : (c : In-Ready) → let s = c.args in
-    JobChecked s.c.now s.t.now (input_rows s.c.now s.t.now 1 1 s.fs.now else row12 s.k) c.unless-rows.result
-checked c = joined c.check_inputs.ensures c.check_k.ensures c.unless-rows.ensures
+job : (c : In_ok-job) → JobOf c.args.c.now c.args.t.now c.in_ok-job.job
+job c = c.in_ok-job.ensures.job _ refl
 
-passed : (c : In-Ready) → let s = c.args in (input_rows s.c.now s.t.now 1 1 s.fs.now ≡ none) × (row12 s.k ≡ none)
-passed c = (or_else-eq-none _ _).0 (ready-none (checked c) c.in-Ready.is)
+pub returns-in_err-job : goal.returns-in_err-job
+unfolding refusal_of choose_refusal
+returns-in_err-job c =
+    let h = err_from_is_err_and c.from_residual.result c.from_residual.ensures.1 in
+    is_broken h (ended_early _ h c.in_err-job.ensures.refusal)
+
+pub returns-in_err-check_k : goal.returns-in_err-check_k
+unfolding refusal_of choose_refusal
+returns-in_err-check_k c =
+    let r = c.from_residual-in_err-check_k in
+    let h = err_from_is_err_and r.result r.ensures.1 in
+    is_broken h (went_on c.in_ok-job.ensures.refusal (ended_early _ h c.in_err-check_k.ensures))
 
 pub overflow_mul-k : goal.overflow_mul-k
-unfolding row12
-overflow_mul-k c = omega (arith, ltb-false 12 c.args.k (refuse-none _ 12 0 (passed c).1))
+unfolding refusal_of row12
+overflow_mul-k c = omega (arith, ltb-false 12 c.args.k (refuse-none _ 12 0 (sym c.in_ok-check_k.ensures)))
 
 pub check_areas-requires : goal.check_areas-requires
-check_areas-requires c = limited (valid_inputs _ _ _ _ _ (passed c).0) ((checked c).job _ c.in-Ready.is)
+unfolding refusal_of
+check_areas-requires c =
+    limited (valid_inputs _ _ _ _ _ (sym c.in_ok-job.ensures.refusal)) (job (goal.at.check_areas-requires c).In_ok-job)
 
-pub returns-in-Broken : goal.returns-in-Broken
-unfolding choose_refusal
-returns-in-Broken c =
-    regrouped _ _ _ (stays_broken _ (joined c.check_inputs.ensures c.check_k.ensures c.unless-rows.ensures) c.in-Broken.is)
+pub returns-in_err-check_areas : goal.returns-in_err-check_areas
+unfolding refusal_of choose_refusal
+returns-in_err-check_areas c =
+    let r = c.from_residual-in_err-check_areas in
+    let h = err_from_is_err_and r.result r.ensures.1 in
+    let of = job (goal.at.returns-in_err-check_areas c).In_ok-job in
+    is_broken h (went_on c.in_ok-job.ensures.refusal (went_on c.in_ok-check_k.ensures (ended h (c.in_err-check_areas.ensures _ _ of))))
 
-pub returns-in-Ready : goal.returns-in-Ready
-unfolding choose_refusal
-returns-in-Ready c =
-    regrouped _ _ _ (joined-ready (checked (goal.at.returns-in-Ready c).In-Ready) c.in-Ready.is (c.check_areas.ensures _ _) c.unless.ensures)
+pub returns : goal.returns
+unfolding refusal_of choose_refusal
+returns c =
+    let of = job (goal.at.returns c).In_ok-job in
+    is-ready (went_on c.in_ok-job.ensures.refusal (went_on c.in_ok-check_k.ensures (c.in_ok-check_areas.ensures _ _ of))) of

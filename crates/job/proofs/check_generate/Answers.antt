@@ -1,59 +1,60 @@
-use mathlib.Core.Path.{◌≡◌, sym, ap, ◌∙◌}
-use mathlib.Core.List.{List}
-use mathlib.Core.Option.{none, some, or_else}
+use mathlib.Core.Path.{◌≡◌, refl, sym, ap, ◌∙◌}
 use mathlib.Mathlib.Data.Option.Basic.{or_else-eq-none}
+use mathlib.Core.List.{List}
 use Prim.Native.Nat.{ℕ, ◌*◌, ◌≤◌}
 use native.Mathlib.Nat.{mul-le-mul}
 use native.Mathlib.Omega.{arith}
+use Rattle.std.proofs.lemmas.Result.{err_from_is_err_and}
 use Rattle.lists.specs.Scan.{◌else◌}
 use Rattle.lists.proofs.Scan.{else_found, else_assoc}
 use Rattle.model.specs.Inputs.{I}
-use Rattle.model.specs.Refusals.{circuit_rows, row14, row16, row17, generate_refusal}
+use Rattle.model.specs.Accepted.{ValidCircuit}
+use Rattle.model.specs.Refusals.{circuit_rows, row14, row16, row17, answer, generate_refusal}
 use Rattle.model.specs.Generate.{generate_answer}
-use Rattle.model.proofs.Accepted.{valid_circuit, units-fit, answer-refused}
+use Rattle.model.proofs.Accepted.{valid_circuit, units-fit}
 use Rattle.circuit.specs.Table.{SizesOf}
-use Rattle.rules.proofs.Laws.{passed_none, broken_some, sized-none, unsized_some}
-use Rattle.job.specs.Job.{answer_of}
-use Rattle.job.proofs.check_generate.Goals.{In-Sized}
+use Rattle.rules.specs.Check.{refusal_of}
+use Rattle.rules.proofs.Laws.{went_on}
+use Rattle.job.proofs.Laws.{refuses}
+use Rattle.job.proofs.check_generate.Goals.{In_ok-s}
 use Rattle.job.proofs.check_generate.Goals as goal
 
--- the rows as the two checks join them
-module _ (c : List ℕ) (seed units result : ℕ) where
-  grouped : generate_refusal c seed units result ≡ (circuit_rows c else ((row16 seed else row17 units) else row14 (units * I c) result))
-  unfolding generate_refusal
-  grouped = ap (λ later. circuit_rows c else later) (sym (else_assoc (row16 seed) (row17 units) _))
+valid : (c : In_ok-s) → ValidCircuit c.args.c.now
+unfolding refusal_of
+valid c = valid_circuit _ (sym c.in_ok-s.ensures.refusal)
 
-  load-broken : {rule at : ℕ} → circuit_rows c ≡ none → (row16 seed else row17 units) ≡ some (rule, at) → generate_refusal c seed units result ≡ some (rule, at)
-  unfolding or_else
-  load-broken e l = grouped ∙ rw (e, l)
+sizes : (c : In_ok-s) → SizesOf c.args.c.now c.in_ok-s.s
+sizes c = c.in_ok-s.ensures.sizes _ refl
 
-  passed : circuit_rows c ≡ none → (row16 seed else row17 units) ≡ none → generate_refusal c seed units result ≡ row14 (units * I c) result
-  unfolding or_else
-  passed e l = grouped ∙ rw (e, l)
+-- the rows as the checks join them
+grouped : (c : List ℕ) (seed units result : ℕ) → generate_refusal c seed units result ≡ (circuit_rows c else ((row16 seed else row17 units) else row14 (units * I c) result))
+unfolding generate_refusal
+grouped c seed units result = ap (λ later. circuit_rows c else later) (sym (else_assoc (row16 seed) (row17 units) _))
 
-sizes : (c : In-Sized) → SizesOf c.args.c.now c.in-Sized.s
-sizes c = c.check_circuit.ensures.sizes _ c.in-Sized.is
+pub returns-in_err-s : goal.returns-in_err-s
+unfolding refusal_of generate_answer generate_refusal
+returns-in_err-s c =
+    let h = err_from_is_err_and c.from_residual.result c.from_residual.ensures.1 in
+    refuses _ h (sym (else_found _ _ _ (sym c.in_err-s.ensures.refusal)))
 
-accepted : (c : In-Sized) → circuit_rows c.args.c.now ≡ none
-accepted c = sized-none c.check_circuit.ensures c.in-Sized.is
+pub returns-in_err-check_load : goal.returns-in_err-check_load
+unfolding refusal_of generate_answer
+returns-in_err-check_load c =
+    let r = c.from_residual-in_err-check_load in
+    let h = err_from_is_err_and r.result r.ensures.1 in
+    rw grouped (refuses _ h (went_on c.in_ok-s.ensures.refusal (sym (else_found _ _ _ (sym c.in_err-check_load.ensures)))))
 
 pub overflow_mul-units : goal.overflow_mul-units
+unfolding refusal_of
 overflow_mul-units c =
-    let few : c.in-Sized.s.inputs ≤ 256 = rw (sizes (goal.at.overflow_mul-units c).In-Sized).inputs (valid_circuit _ (accepted (goal.at.overflow_mul-units c).In-Sized)).inputs in
-    let most = (units-fit _ ((or_else-eq-none (row16 _) _).0 (passed_none c.check_load.ensures c.in-Passed.is)).1).1 in
+    let ok = (goal.at.overflow_mul-units c).In_ok-s in
+    let few : c.in_ok-s.s.inputs ≤ 256 = rw (sizes ok).inputs (valid ok).inputs in
+    let most = (units-fit _ ((or_else-eq-none (row16 _) _).0 (sym c.in_ok-check_load.ensures)).1).1 in
     omega (arith, mul-le-mul most few)
 
-pub returns-in-Broken : goal.returns-in-Broken
-unfolding answer_of generate_answer generate_refusal
-returns-in-Broken c = sym (answer-refused _ _ _ (else_found _ _ _ (unsized_some c.check_circuit.ensures c.in-Broken.is)))
-
-pub returns-in-Broken-check_load : goal.returns-in-Broken-check_load
-unfolding answer_of generate_answer
-returns-in-Broken-check_load c =
-    sym (answer-refused _ _ _ (load-broken _ _ _ _ (accepted (goal.at.returns-in-Broken-check_load c).In-Sized) (broken_some c.check_load.ensures c.in-Broken-check_load.is)))
-
-pub returns-in-Passed : goal.returns-in-Passed
-unfolding generate_answer
-returns-in-Passed c =
+pub returns : goal.returns
+unfolding refusal_of generate_answer
+returns c =
     c.check_result.ensures
-    ∙ rw ((sizes (goal.at.returns-in-Passed c).In-Sized).inputs, passed _ _ _ c.args.res (accepted (goal.at.returns-in-Passed c).In-Sized) (passed_none c.check_load.ensures c.in-Passed.is))
+    ∙ rw ((sizes (goal.at.returns c).In_ok-s).inputs, grouped)
+    (ap (λ rows. answer rows (c.args.units * I c.args.c.now)) (went_on c.in_ok-s.ensures.refusal (went_on c.in_ok-check_load.ensures refl)))

@@ -1,57 +1,84 @@
-use mathlib.Core.Path.{◌≡◌, sym}
-use mathlib.Core.List.{List}
-use mathlib.Core.Option.{none}
-use Prim.Native.Nat.{ℕ, ◌<◌}
-use Rattle.lists.specs.Scan.{◌else◌}
-use Rattle.lists.proofs.Scan.{else_found}
+use mathlib.Core.Path.{refl, sym}
+use Prim.Native.Nat.{◌<◌}
+use Rattle.std.proofs.lemmas.Result.{err_from_is_err_and}
 use Rattle.model.specs.Inputs.{L}
-use Rattle.model.specs.Refusals.{circuit_rows, row7, input_rows}
+use Rattle.model.specs.Accepted.{ValidCircuit}
+use Rattle.model.specs.Refusals.{input_rows}
 use Rattle.model.proofs.Accepted.{valid_circuit}
 use Rattle.circuit.specs.Table.{SizesOf}
-use Rattle.circuit.specs.declared.Sizes.{Sizes}
-use Rattle.rules.specs.Check.{CircuitChecked}
-use Rattle.rules.specs.declared.CircuitCheck.{CircuitCheck}
-use Rattle.rules.specs.declared.CircuitCheck.TheVariants.{Sized}
-use Rattle.rules.proofs.Laws.{sized-none, unsized_some}
-use Rattle.job.specs.Job.{JobChecked}
-use Rattle.job.proofs.Laws.{is-ready, is_broken, joined, regrouped}
-use Rattle.job.proofs.check_inputs.Goals.{After-unless}
+use Rattle.rules.specs.Check.{refusal_of}
+use Rattle.rules.proofs.Laws.{ended, ended_early, went_on}
+use Rattle.job.proofs.Laws.{is-ready, is_broken}
+use Rattle.job.proofs.check_inputs.Goals.{In_ok-s}
 use Rattle.job.proofs.check_inputs.Goals as goal
 
-sizes : (c : After-unless) → SizesOf c.args.c.now c.in-Sized.s
-sizes c = c.check_circuit.ensures.sizes _ c.in-Sized.is
+valid : (c : In_ok-s) → ValidCircuit c.args.c.now
+unfolding refusal_of
+valid c = valid_circuit _ (sym c.in_ok-s.ensures.refusal)
 
-passed : (c : After-unless) → circuit_rows c.args.c.now ≡ none
-passed c = sized-none c.check_circuit.ensures c.in-Sized.is
+sizes : (c : In_ok-s) → SizesOf c.args.c.now c.in_ok-s.s
+sizes c = c.in_ok-s.ensures.sizes _ refl
 
-some-input : {c : List ℕ} {r : CircuitCheck} {s : Sizes} → CircuitChecked c r → r ≡ Sized s → 0 < s.inputs
-some-input checked e = rw (checked.sizes _ e).inputs (valid_circuit _ (sized-none checked e)).some_input
+some-input : (c : In_ok-s) → 0 < c.in_ok-s.s.inputs
+some-input c = rw (sizes c).inputs (valid c).some_input
 
--- rows 1 to 7, with the sizes
-measured : (c : After-unless) → let s = c.args in JobChecked s.c.now s.t.now (circuit_rows s.c.now else row7 s.c.now s.t.now) c.unless.result
-unfolding L
-measured c =
-    let s = sizes c in
-    joined
-    (is-ready (passed c) (record { lines = s.lines; inputs = s.inputs; flops = s.flops; outputs = s.outputs; units = rw s.inputs }))
-    (c.check_units.ensures _ (sym s.inputs)) c.unless.ensures
-
-pub nonzero_div-job : goal.nonzero_div-job
-nonzero_div-job c = some-input c.check_circuit.ensures c.in-Sized.is
+pub returns-in_err-s : goal.returns-in_err-s
+unfolding refusal_of input_rows
+returns-in_err-s c =
+    let h = err_from_is_err_and c.from_residual.result c.from_residual.ensures.1 in
+    is_broken h (ended_early _ h c.in_err-s.ensures.refusal)
 
 pub check_units-requires : goal.check_units-requires
-check_units-requires c = some-input c.check_circuit.ensures c.in-Sized.is
+check_units-requires c = some-input (goal.at.check_units-requires c).In_ok-s
+
+pub returns-in_err-check_units : goal.returns-in_err-check_units
+unfolding refusal_of input_rows
+returns-in_err-check_units c =
+    let r = c.from_residual-in_err-check_units in
+    let h = err_from_is_err_and r.result r.ensures.1 in
+    let inputs = sym (sizes (goal.at.returns-in_err-check_units c).In_ok-s).inputs in
+    is_broken h (went_on c.in_ok-s.ensures.refusal (ended_early _ h (c.in_err-check_units.ensures _ inputs)))
+
+pub returns-in_err-check_bytes : goal.returns-in_err-check_bytes
+unfolding refusal_of input_rows
+returns-in_err-check_bytes c =
+    let r = c.from_residual-in_err-check_bytes in
+    let h = err_from_is_err_and r.result r.ensures.1 in
+    let inputs = sym (sizes (goal.at.returns-in_err-check_bytes c).In_ok-s).inputs in
+    is_broken h (went_on c.in_ok-s.ensures.refusal (went_on (c.in_ok-check_units.ensures _ inputs) (ended_early _ h c.in_err-check_bytes.ensures)))
+
+pub returns-in_err-check_count : goal.returns-in_err-check_count
+unfolding refusal_of input_rows
+returns-in_err-check_count c =
+    let r = c.from_residual-in_err-check_count in
+    let h = err_from_is_err_and r.result r.ensures.1 in
+    let inputs = sym (sizes (goal.at.returns-in_err-check_count c).In_ok-s).inputs in
+    is_broken h
+    (went_on c.in_ok-s.ensures.refusal (went_on (c.in_ok-check_units.ensures _ inputs) (went_on c.in_ok-check_bytes.ensures (ended_early _ h c.in_err-check_count.ensures))))
 
 pub check_each-requires : goal.check_each-requires
-check_each-requires c = (rw (sizes (goal.at.check_each-requires c).After-unless).lines (valid_circuit _ (passed (goal.at.check_each-requires c).After-unless)).size, (sizes (goal.at.check_each-requires c).After-unless).lines)
+check_each-requires c =
+    let ok = (goal.at.check_each-requires c).In_ok-s in
+    (rw (sizes ok).lines (valid ok).size, (sizes ok).lines)
 
-pub returns-in-Broken : goal.returns-in-Broken
-unfolding input_rows
-returns-in-Broken c = is_broken (else_found _ _ _ (unsized_some c.check_circuit.ensures c.in-Broken.is))
+pub returns-in_err-check_each : goal.returns-in_err-check_each
+unfolding refusal_of input_rows
+returns-in_err-check_each c =
+    let r = c.from_residual-in_err-check_each in
+    let h = err_from_is_err_and r.result r.ensures.1 in
+    let inputs = sym (sizes (goal.at.returns-in_err-check_each c).In_ok-s).inputs in
+    is_broken h
+    (went_on c.in_ok-s.ensures.refusal
+    (went_on (c.in_ok-check_units.ensures _ inputs) (went_on c.in_ok-check_bytes.ensures (went_on c.in_ok-check_count.ensures (ended h c.in_err-check_each.ensures)))))
 
-pub returns-in-Sized : goal.returns-in-Sized
-unfolding input_rows
-returns-in-Sized c =
-    regrouped _ _ _ (regrouped _ _ _ (regrouped _ _ _
-    (joined (joined (joined (measured (goal.at.returns-in-Sized c).After-unless) c.check_bytes.ensures c.unless-in-Sized.ensures)
-    c.check_count.ensures c.unless-in-Sized-2.ensures) c.check_each.ensures c.unless-in-Sized-3.ensures)))
+pub nonzero_div-result : goal.nonzero_div-result
+nonzero_div-result c = some-input (goal.at.nonzero_div-result c).In_ok-s
+
+pub returns : goal.returns
+unfolding refusal_of input_rows L
+returns c =
+    let s = sizes (goal.at.returns c).In_ok-s in
+    is-ready
+    (went_on c.in_ok-s.ensures.refusal
+    (went_on (c.in_ok-check_units.ensures _ (sym s.inputs)) (went_on c.in_ok-check_bytes.ensures (went_on c.in_ok-check_count.ensures c.in_ok-check_each.ensures))))
+    (record { lines = s.lines; inputs = s.inputs; flops = s.flops; outputs = s.outputs; units = rw s.inputs })

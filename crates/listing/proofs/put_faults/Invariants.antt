@@ -1,6 +1,6 @@
 -- The lines of the faults below `j` are appended, each of 72 bytes at most.
 use mathlib.Core.Path.{◌≡◌}
-use Prim.Native.Nat.{◌*◌, ◌-◌, ◌≤◌}
+use Prim.Native.Nat.{◌*◌, ◌≤◌}
 use lib.ListN.{length}
 use Rattle.decimals.specs.Put.{Put}
 use Rattle.listing.specs.Print.{lines_below}
@@ -8,7 +8,4 @@ use Rattle.listing.proofs.put_faults.Given as goal
 
 abbrev pub invariant-loop-j : goal.invariant-loop-j
 invariant-loop-j l =
-    (l.j ≤ l.count) × (l.at ≤ 72 * l.j) × (length l.out ≡ length l.initial.out) × (Put 0 l.at (lines_below l.faults l.records l.groups l.j) l.initial.out l.out)
-
-abbrev pub decreases-loop-j : goal.decreases-loop-j
-decreases-loop-j l = l.count - l.j
+    (l.at ≤ 72 * l.j) × (length l.out ≡ length l.initial.out) × (Put 0 l.at (lines_below l.faults l.records l.groups l.j) l.initial.out l.out)

@@ -1,4 +1,4 @@
-use mathlib.Core.Path.{ap}
+use mathlib.Core.Path.{ap, ◌∙◌}
 use mathlib.Core.List.{[], ◌∷◌}
 use native.Mathlib.Omega.{arith}
 use Rattle.model.specs.Listing.{refused_line}
@@ -11,11 +11,12 @@ use Rattle.listing.proofs.put_refused.Goals as goal
 pub put_line-requires : goal.put_line-requires
 unfolding Below
 put_line-requires c =
-    let rule = c.wide in
-    let short = line-short 19 (rule.result ∷ c.args.at ∷ []) (omega arith) (omega (arith, rule.ensures.1), (omega (arith, c.ranges.at.fits), tt)) in
+    let short = line-short 19 (c.from-number.result ∷ c.args.refusal.at ∷ []) (omega arith) (omega arith, (omega arith, tt)) in
     (omega arith, omega (arith, short, c.requires, c.put_text-words.ensures.end, c.put_text-words.auto.out))
 
 pub returns : goal.returns
 unfolding refused_line
 returns c =
-    put_same (ap (λ n. refused_line n c.args.at) c.wide.ensures.0) (put_then c.put_text-words.ensures c.put_line.ensures)
+    put_same
+    (ap (λ n. refused_line n c.args.refusal.at) (c.from-number.ensures ∙ c.number.ensures))
+    (put_then c.put_text-words.ensures c.put_line.ensures)

@@ -10,4 +10,4 @@ inspect-requires c = (none-held _, refl)
 
 pub write-requires : goal.write-requires
 unfolding answer_of
-write-requires c = accepted-named c.in-Done.ensures refl
+write-requires c = accepted-named c.in-Ok.ensures refl

@@ -10,12 +10,12 @@ digits n h = decimal-short 3 n (omega arith)
 pub put_field-begin-requires : goal.put_field-begin-requires
 put_field-begin-requires c = omega (arith, digits c.args.n c.requires.1, c.requires.0)
 
-pub put_name-end-requires : goal.put_name-end-requires
-put_name-end-requires c = omega (arith, digits c.args.n c.requires.1, field_end _ _ c.put_field-begin.ensures, c.requires)
+pub put_text-end-requires : goal.put_text-end-requires
+put_text-end-requires c = omega (arith, digits c.args.n c.requires.1, field_end _ _ c.put_field-begin.ensures, c.requires)
 
 pub put_byte-requires : goal.put_byte-requires
-put_byte-requires c = omega (arith, digits c.args.n c.requires.1, field_end _ _ c.put_field-begin.ensures, c.put_name-end.ensures, c.requires)
+put_byte-requires c = omega (arith, digits c.args.n c.requires.1, field_end _ _ c.put_field-begin.ensures, c.put_text-end.ensures.end, c.requires)
 
 pub returns : goal.returns
 returns c =
-    omega (arith, digits c.args.n c.requires.1, field_end _ _ c.put_field-begin.ensures, c.put_name-end.ensures, c.put_byte.ensures.end, c.requires)
+    omega (arith, digits c.args.n c.requires.1, field_end _ _ c.put_field-begin.ensures, c.put_text-end.ensures.end, c.put_byte.ensures.end, c.requires)

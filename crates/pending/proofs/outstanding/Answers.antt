@@ -8,7 +8,7 @@ use Rattle.pending.proofs.outstanding.Goals as goal
 
 pub loop-u-init : goal.loop-u-init
 loop-u-init c =
-    (omega arith, refl, omega arith, mul_comm c.args.units c.args.outputs, omega arith, λ cs ts f r. from_end _ _ _ _ r c.args.table.now c.requires.4)
+    (omega arith, mul_comm c.args.units c.args.outputs, omega arith, λ cs ts f r. from_end _ _ _ _ r c.args.table.now c.requires.4)
 
 pub loop-u-preserved : goal.loop-u-preserved
 loop-u-preserved c =
@@ -17,15 +17,13 @@ loop-u-preserved c =
     let here = c.compare_rows-here.ensures in
     let unit : ℕ = loop.u - 1 in
     let next : loop.u ≡ suc unit = omega (arith, c.loop-u-test.true) in
-    let below : unit < c.args.units = omega (arith, c.loop-u-test.true, inv.0) in
-    let ends : loop.to ≡ c.args.outputs * unit + c.args.outputs = row_ends _ _ _ _ next inv.3 in
-    let room : unit < length loop.table = omega (arith, below, c.requires.4, inv.1, length-set c.args.table.now c.args.units 0) in
+    let below : unit < c.args.units = omega (arith, c.loop-u-test.true, loop.auto.u) in
+    let ends : loop.to ≡ c.args.outputs * unit + c.args.outputs = row_ends _ _ _ _ next inv.1 in
+    let room : unit < length loop.table = omega (arith, below, c.requires.4, loop.auto.table, length-set c.args.table.now c.args.units 0) in
     let places : c.compare_rows-here.result.places ≡ c.args.outputs =
-    here.0 ∙ row-length _ _ _ _ next inv.3 c.args.free.now (omega (arith, inv.2, c.requires.2)) in (
-      omega (arith, below),
-      length-set loop.table unit _ ∙ inv.1,
-      omega (arith, places, ends, inv.2),
+    here.0 ∙ row-length _ _ _ _ next inv.1 c.args.free.now (omega (arith, inv.0, c.requires.2)) in (
+      omega (arith, places, ends, inv.0),
       refl,
-      omega (arith, here.2, inv.4),
-      λ cs ts f r. from_more _ _ _ _ r loop.table unit loop.u loop.to loop.later _ next inv.3 below room (inv.5 cs ts f r) here.1,
+      omega (arith, here.2, inv.2),
+      λ cs ts f r. from_more _ _ _ _ r loop.table unit loop.u loop.to loop.later _ next inv.1 below room (inv.3 cs ts f r) here.1,
     )

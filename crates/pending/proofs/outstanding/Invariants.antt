@@ -2,7 +2,6 @@
 use mathlib.Core.Path.{◌≡◌}
 use mathlib.Core.List.{List}
 use Prim.Native.Nat.{ℕ, ◌+◌, ◌*◌, ◌≤◌}
-use lib.ListN.{length}
 use Rattle.model.specs.Inputs.{Fault}
 use Rattle.pending.specs.Pending.{Responses}
 use Rattle.pending.proofs.Laws.{From}
@@ -10,8 +9,5 @@ use Rattle.pending.proofs.outstanding.Given as goal
 
 abbrev pub invariant-loop-u : goal.invariant-loop-u
 invariant-loop-u l =
-    (l.u ≤ l.units) × (length l.table ≡ length l.initial.table) × (l.compared + l.to ≡ l.units * l.outputs) × (l.to ≡ l.outputs * l.u) × (l.later ≤ l.compared)
+    (l.compared + l.to ≡ l.units * l.outputs) × (l.to ≡ l.outputs * l.u) × (l.later ≤ l.compared)
     × ((c t : List ℕ) (f : Fault) → Responses l.units l.outputs l.free l.faulty c t f → From l.units l.table l.u l.later c t f)
-
-abbrev pub decreases-loop-u : goal.decreases-loop-u
-decreases-loop-u l = l.u

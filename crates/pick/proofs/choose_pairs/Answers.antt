@@ -7,10 +7,10 @@ use Rattle.pick.proofs.choose_pairs.Goals as goal
 use Rattle.pick.proofs.choose_pairs.Goals.{After-reached-reach}
 
 -- so many units may have a pair
-units-of : (c : After-reached-reach) → c.reached-reach.result ≡ reach_of (L c.args.c.now c.args.t.now) c.args.left
+units-of : (c : After-reached-reach) → c.reached-reach.result ≡ reach_of (L c.args.setup.now.circuit.now c.args.setup.now.test.now) c.args.left
 units-of c = c.reached-reach.ensures ∙ ap (λ n. reach_of n c.args.left) c.requires.0.sizes.units
 
-few : (c : After-reached-reach) → c.reached-reach.result ≤ L c.args.c.now c.args.t.now
+few : (c : After-reached-reach) → c.reached-reach.result ≤ L c.args.setup.now.circuit.now c.args.setup.now.test.now
 few c = reach-most _ _ _ (units-of c)
 
 pub set_merits-requires : goal.set_merits-requires
@@ -19,7 +19,7 @@ set_merits-requires c =
     let few-units = few (goal.at.set_merits-requires c).After-reached-reach in (
       omega (arith, few-units, g.test.most),
       omega (arith, g.sizes.flops, g.circuit.flip_flops),
-      rw g.sizes.flops (omega (arith, mul-le-mul_right (F c.args.c.now) few-units, c.requires.6.plain.room)),
+      rw g.sizes.flops (omega (arith, mul-le-mul_right (F c.args.setup.now.circuit.now) few-units, c.requires.6.plain.room)),
       omega (arith, few-units, c.requires.5),
       omega (arith, few-units, c.requires.6.units),
       at_most _ _ _ _ few-units c.requires.4,
@@ -32,7 +32,7 @@ pick_pairs-requires c =
       c.requires.0,
       few-units,
       c.requires.1,
-      omega (arith, c.requires.2, mul-le-mul_left (F c.args.c.now) few-units, mul_comm (F c.args.c.now) (L c.args.c.now c.args.t.now)),
+      omega (arith, c.requires.2, mul-le-mul_left (F c.args.setup.now.circuit.now) few-units, mul_comm (F c.args.setup.now.circuit.now) (L c.args.setup.now.circuit.now c.args.setup.now.test.now)),
       c.requires.3,
       c.set_merits.ensures.small,
       record {

@@ -1,6 +1,6 @@
 use Rattle.std.proofs.Common.{arith}
 use Rattle.places.proofs.Laws.{work_room_lem, faults-of}
-use Rattle.propose.proofs.Laws.{records-none, workable-again, chosen-first}
+use Rattle.propose.proofs.Laws.{records-none, chosen-first}
 use Rattle.propose.proofs.propose.Goals as goal
 
 pub run_beside-requires : goal.run_beside-requires
@@ -19,13 +19,3 @@ run_beside-requires c =
 
 pub returns-then-run_beside : goal.returns-then-run_beside
 returns-then-run_beside c = records-none _ _ (chosen-first _ _ _ _ (c.run_beside.ensures.1.met c.if-run_beside.true))
-
-pub propose_open-requires : goal.propose_open-requires
-propose_open-requires c =
-    let pre = c.requires in
-    let run = c.run_beside in (
-      rw run.auto.faulty pre.0,
-      workable-again _ _ _ _ _ _ _ pre.1 run.ensures.0 run.auto.hits run.auto.masks run.auto.feed run.auto.words run.auto.state run.auto.free run.auto.states,
-      run.ensures.1.unmet c.if-run_beside.false,
-      run.ensures.1.tables c.if-run_beside.false,
-    )

@@ -1,11 +1,9 @@
-use Rattle.std.proofs.Common.{ℕ, ◌≡◌, ◌*◌, ◌<◌, ◌≤◌, sym, arith}
-use Rattle.std.proofs.Math.Nat.{mul-le-mul}
-use Rattle.model.specs.Inputs.{F, L, fault_at}
+use Rattle.std.proofs.Common.{inl, inr, ℕ, ◌<◌, sym, arith}
+use Rattle.model.specs.Inputs.{fault_at}
 use Rattle.model.specs.Accepted.{ValidFault}
 use Rattle.unit.specs.Unit.{Stuck}
 use Rattle.model.proofs.Apart.{list-three}
 use Rattle.model.proofs.Choose.{chosen-undecided, chosen-decided}
-use Rattle.expand.proofs.Begin.{product_as}
 use Rattle.best.proofs.Bounds.{nouts_small}
 use Rattle.run.proofs.Laws.{runnable-again}
 use Rattle.stages.proofs.Laws.{last_none}
@@ -15,28 +13,12 @@ use Rattle.propose.proofs.propose_open.Goals as goal
 use Rattle.propose.proofs.propose_open.Goals.{Start, After-middle_stages-middle}
 
 -- the list's fault
-fault : (c : Start) → ValidFault c.args.c.now (fault_at c.args.fs.now 0)
+fault : (c : Start) → ValidFault c.args.setup.now.circuit.now (fault_at c.args.fs.now 0)
 fault c = let inputs = c.requires.0.inputs in inputs.fault 0 (omega (arith, inputs.enough))
-
--- how many positions the walk has
-positions : (c : Start) → c.args.job.flops * c.args.job.units ≡ L c.args.c.now c.args.t.now * F c.args.c.now
-positions c = let sizes = c.requires.1.runs.sizes in product_as _ _ _ _ sizes.flops sizes.units
 
 -- the fault that all lanes have
 stuck : (c : After-middle_stages-middle) (lane : ℕ) → lane < 64 → Stuck lane c.give_all.new.hits c.give_all.new.masks (fault_at c.args.fs.now 0)
 stuck c lane h = let f = c.fault_of-f.ensures in c.give_all.ensures.1 lane _ h (sym f.line) (sym f.pin) (sym f.value)
-
-pub give_all-requires : goal.give_all-requires
-give_all-requires c =
-    let f = c.fault_of-f.ensures in
-    let valid = fault (goal.at.give_all-requires c).Start in
-    let room = c.requires.1 in (
-      room.blank,
-      omega (arith, f.line, valid.line, room.runs.hit_room),
-      room.runs.mask_room,
-      omega (arith, f.pin, valid.pin, room.runs.circuit.few _ valid.line),
-      omega (arith, f.value, valid.value),
-    )
 
 pub middle_stages-middle-requires : goal.middle_stages-middle-requires
 middle_stages-middle-requires c =
@@ -50,21 +32,13 @@ middle_stages-middle-requires c =
       pre.1.nout_room,
     )
 
-pub returns-then-middle-eq0 : goal.returns-then-middle-eq0
-returns-then-middle-eq0 c =
-    let said = c.middle_stages-middle.ensures.opened _ (stuck (goal.at.returns-then-middle-eq0 c).After-middle_stages-middle) (fault (goal.at.returns-then-middle-eq0 c).Start) c.requires.2 c.requires.3 in
-    records-none _ _ (chosen-decided _ _ _ _ _ (said.nothing c.if-middle-eq0.true))
-
-pub overflow_mul-job : goal.overflow_mul-job
-overflow_mul-job c =
-    let run = c.requires.1.runs in
-    omega (arith, positions (goal.at.overflow_mul-job c).Start, mul-le-mul run.test.most run.circuit.flip_flops)
-
-pub returns-then-middle-job : goal.returns-then-middle-job
-returns-then-middle-job c =
-    let s = (goal.at.returns-then-middle-job c).Start in
-    let said = c.middle_stages-middle.ensures.opened _ (stuck (goal.at.returns-then-middle-job c).After-middle_stages-middle) (fault s) c.requires.2 c.requires.3 in
-    records-none _ _ (chosen-decided _ _ _ _ _ (said.decided (omega (arith, c.if-middle-eq0.false)) (omega (arith, positions s, c.if-middle-job.true))))
+pub returns-in-Nothing : goal.returns-in-Nothing
+returns-in-Nothing c =
+    let said = c.middle_stages-middle.ensures.opened _ (stuck (goal.at.returns-in-Nothing c).After-middle_stages-middle) (fault (goal.at.returns-in-Nothing c).Start) c.requires.2 c.requires.3 in
+    elim c.in-Nothing.is [
+      | inl nothing ↦ records-none _ _ (chosen-decided _ _ _ _ _ (said.nothing nothing))
+      | inr decided ↦ records-none _ _ (chosen-decided _ _ _ _ _ (said.decided decided.0 decided.1))
+    ]
 
 pub choose_pairs-requires : goal.choose_pairs-requires
 choose_pairs-requires c =
@@ -87,14 +61,12 @@ choose_pairs-requires c =
       },
     )
 
-pub returns : goal.returns
-returns c =
-    let s = (goal.at.returns c).Start in
+pub returns-in-Open : goal.returns-in-Open
+returns-in-Open c =
+    let s = (goal.at.returns-in-Open c).Start in
     let middle = c.middle_stages-middle in
-    let said = middle.ensures.opened _ (stuck (goal.at.returns c).After-middle_stages-middle) (fault s) c.requires.2 c.requires.3 in
-    let some_left : 0 < middle.result.left = omega (arith, c.if-middle-eq0.false) in
-    let past : L c.args.c.now c.args.t.now * F c.args.c.now ≤ middle.result.pair = omega (arith, positions s, c.if-middle-job.false) in
-    let undecided = said.undecided some_left past in
+    let said = middle.ensures.opened _ (stuck (goal.at.returns-in-Open c).After-middle_stages-middle) (fault s) c.requires.2 c.requires.3 in
+    let undecided = said.undecided _ c.in-Open.is in
     records_as (chosen-undecided _ _ _ _ undecided)
-    (c.choose_pairs.ensures.records _ (said.ready some_left past) (λ u h. list-three _ _ _ c.requires.1.runs.test (fault s) (last_none _ _ _ undecided) u h)
+    (c.choose_pairs.ensures.records _ (said.ready _ c.in-Open.is) (λ u h. list-three _ _ _ c.requires.1.runs.test (fault s) (last_none _ _ _ undecided) u h)
     (λ u h. middle.ensures.nout _ c.requires.3 u h))

@@ -6,4 +6,4 @@ use Rattle.random.proofs.make.Goals as goal
 
 pub write-requires : goal.write-requires
 unfolding answer_of
-write-requires c = omega (arith, generated-within _ _ _ _ _ (sym c.in-Done.ensures.answers))
+write-requires c = omega (arith, generated-within _ _ _ _ _ (sym c.in-Ok.ensures.answers))

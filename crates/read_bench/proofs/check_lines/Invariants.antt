@@ -10,11 +10,8 @@ use Rattle.read_bench.proofs.check_lines.Given as goal
 
 abbrev pub invariant-loop-at : goal.invariant-loop-at
 invariant-loop-at l = record {
-  room : length l.parts ≡ 32;
-  pins : length l.lines ≡ 4;
   reached : Reached l.text l.j l.at l.above;
   passed : first_answer (λ j. line_refusal l.text j) l.j ≡ none;
-  size : length l.records ≡ 49152;
   noted : line_count l.text ≤ 4096 → Noted l.text l.records l.j l.above;
 }
 

@@ -1,5 +1,4 @@
 use mathlib.Core.Path.{refl}
-use lib.ListN.{length-set}
 use native.Mathlib.Omega.{arith}
 use Rattle.lists.specs.Field.{overwritten}
 use Rattle.lists.proofs.Field.{row_more, row-all}
@@ -11,39 +10,17 @@ use Rattle.rows.proofs.extra_row.Goals as goal
 
 pub loop-s-init : goal.loop-s-init
 unfolding overwritten
-loop-s-init c = (omega arith, refl, λ st l e w. refl)
-
-pub read-requires : goal.read-requires
-read-requires c = omega (arith, c.loop-s-test.true, c.requires.1)
-
-pub lane-value-requires : goal.lane-value-requires
-lane-value-requires c = c.requires.2
-
-pub bounds-plain-s : goal.bounds-plain-s
-bounds-plain-s c = omega (arith, c.loop-s-test.true, c.requires.0)
-
-pub bounds-row-s : goal.bounds-row-s
-bounds-row-s c = omega (arith, c.loop-s-test.true, c.loop-s.invariant.1, c.requires.3)
-
-pub overflow_add-s : goal.overflow_add-s
-overflow_add-s c = omega (arith, c.loop-s-test.true)
-
-pub loop-s-smaller : goal.loop-s-smaller
-loop-s-smaller c = omega (arith, c.loop-s-test.true)
+loop-s-init c = λ st l e w. refl
 
 pub loop-s-preserved : goal.loop-s-preserved
-loop-s-preserved c =
+loop-s-preserved c = λ st l e w.
     let loop = c.loop-s in
     let pre = c.requires in
-    let below = c.loop-s-test.true in (
-      omega (arith, below),
-      simp length-set loop.invariant.1,
-      λ st l e w.
-          let value = c.lane-value.ensures _ (omega (arith, w.at loop.s)) (lane-read _ _ st _ _ _ c.read.ensures refl l (omega (arith, e, below))) in
-          row_more (where_x _ st) _ _ _ _ _ X refl (extra-at _ st _ _ _ _ below pre.0 e value c.if_x.ensures) (rw (length-extra _ st _ pre.0 e) below) (omega (arith, below, pre.3)) (loop.invariant.2 st l e w),
-    )
+    let below = c.loop-s-test.true in
+    let value = c.lane-value.ensures _ (omega (arith, w.at loop.s)) (lane-read _ _ st _ _ _ c.read.ensures refl l (omega (arith, e, below))) in
+    row_more (where_x _ st) _ _ _ _ _ X refl (extra-at _ st _ _ _ _ below pre.0 e value c.if_x.ensures) (rw (length-extra _ st _ pre.0 e) below) (omega (arith, below, pre.3)) (loop.invariant st l e w)
 
 pub returns : goal.returns
 returns c = λ st l e w.
     let loop = c.loop-s in
-    row-all (where_x _ st) _ _ loop.s (rw (length-extra _ st _ c.requires.0 e) (omega (arith, loop.invariant.0, c.loop-s-test.false))) (loop.invariant.2 st l e w)
+    row-all (where_x _ st) _ _ loop.s (rw (length-extra _ st _ c.requires.0 e) (omega arith)) (loop.invariant st l e w)

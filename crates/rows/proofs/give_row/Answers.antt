@@ -1,6 +1,6 @@
 use mathlib.Core.Path.{◌≡◌, refl, sym, ap, ◌∙◌}
 use Prim.Native.Nat.{◌<◌}
-use lib.ListN.{get_or, length, take, length-set}
+use lib.ListN.{get_or, length, take}
 use lib.Seq.{length-take-le}
 use native.Mathlib.Omega.{arith}
 use Rattle.lists.specs.Field.{overwritten}
@@ -11,7 +11,7 @@ use Rattle.rows.proofs.give_row.Goals as goal
 
 pub loop-s-init : goal.loop-s-init
 unfolding overwritten some_oppose
-loop-s-init c = (omega arith, refl, refl, refl)
+loop-s-init c = (refl, refl)
 
 pub loop-s-preserved : goal.loop-s-preserved
 loop-s-preserved c =
@@ -21,11 +21,9 @@ loop-s-preserved c =
     let count = c.args.count in
     let below : loop.s < count = c.loop-s-test.true in
     let long : length (filled (take count row) (take count extra)) ≡ count = filled-long row extra count c.requires.1 in
-    let kept : get_or loop.row loop.s 0 ≡ get_or row loop.s 0 = overwritten-behind _ row _ _ 0 (length-take-le _ _ (omega (arith, long, below))) loop.invariant.3 in (
-      omega (arith, below),
-      simp length-set loop.invariant.1,
-      c.either-found.ensures ∙ opposing_more row extra loop.s loop.found _ (omega (arith, below, c.requires.1)) (omega (arith, below, c.requires.0)) (c.opposing.ensures ∙ rw kept) loop.invariant.2,
-      row_more (filled (take count row) (take count extra)) _ _ _ _ _ 0 refl (filled_at row extra count _ _ _ _ below c.requires.1 c.requires.0 kept refl c.if_x.ensures) (rw long below) (omega (arith, below, c.requires.1)) loop.invariant.3,
+    let kept : get_or loop.row loop.s 0 ≡ get_or row loop.s 0 = overwritten-behind _ row _ _ 0 (length-take-le _ _ (omega (arith, long, below))) loop.invariant.1 in (
+      opposing_more row extra loop.s loop.found _ (omega (arith, below, c.requires.1)) (omega (arith, below, c.requires.0)) (c.opposing-found.ensures ∙ rw kept) loop.invariant.0,
+      row_more (filled (take count row) (take count extra)) _ _ _ _ _ 0 refl (filled_at row extra count _ _ _ _ below c.requires.1 c.requires.0 kept refl c.if_x.ensures) (rw long below) (omega (arith, below, c.requires.1)) loop.invariant.1,
     )
 
 pub returns : goal.returns
@@ -34,10 +32,10 @@ returns c =
     let row = c.args.row.now in
     let extra = c.args.extra.now in
     let count = c.args.count in
-    let end : loop.s ≡ count = omega (arith, loop.invariant.0, c.loop-s-test.false) in
-    let found : loop.found ≡ some_oppose (take count row) (take count extra) = loop.invariant.2 ∙ ap (λ n. some_oppose (take n row) (take n extra)) end in (
+    let end : loop.s ≡ count = omega arith in
+    let found : loop.found ≡ some_oppose (take count row) (take count extra) = loop.invariant.0 ∙ ap (λ n. some_oppose (take n row) (take n extra)) end in (
       found,
       λ none three new.
-          row-all (filled (take count row) (take count extra)) row _ loop.s (end ∙ sym (filled-long row extra count c.requires.1)) loop.invariant.3
+          row-all (filled (take count row) (take count extra)) row _ loop.s (end ∙ sym (filled-long row extra count c.requires.1)) loop.invariant.1
           ∙ ap (λ x. overwritten x row) (filled-given (take count row) (take count extra) three new (sym found ∙ none)),
     )

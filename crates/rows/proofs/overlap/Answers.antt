@@ -1,22 +1,11 @@
-use mathlib.Core.Path.{◌≡◌, refl, ◌∙◌}
-use native.Mathlib.Omega.{arith}
-use Rattle.model.specs.Sequences.{overlaps}
-use Rattle.rows.proofs.Turns.{overlap_more}
+use Rattle.std.proofs.Common.{◌&&◌, ℕ, ◌∙◌, take, rules, tests}
+use Rattle.std.proofs.lemmas.Iterator.{YieldsList-from_zip, YieldsList-from_slice}
+use Rattle.std.proofs.lemmas.Iterator.Search.{any_from_yields_List}
+use Rattle.model.specs.Values.{is_specified}
+use Rattle.rows.proofs.Turns.{overlaps-any}
 use Rattle.rows.proofs.overlap.Goals as goal
-
-pub loop-s-init : goal.loop-s-init
-unfolding overlaps
-loop-s-init c = (omega arith, refl)
-
-pub loop-s-preserved : goal.loop-s-preserved
-loop-s-preserved c =
-    let loop = c.loop-s in (
-      omega arith,
-      c.either-found.ensures ∙ overlap_more c.args.a.now c.args.b.now loop.s loop.found _ (omega arith) (omega arith) c.both.ensures loop.invariant.1,
-    )
 
 pub returns : goal.returns
 returns c =
-    let loop = c.loop-s in
-    let end : loop.s ≡ c.args.count = omega arith in
-    rw (← end) loop.invariant.1
+    any_from_yields_List (λ (p : ℕ × ℕ). is_specified p.0 && is_specified p.1) c.any.new.self _ _ c.any.ensures.ran (YieldsList-from_zip (YieldsList-from_slice (take c.args.count c.args.a.now) cc) (YieldsList-from_slice (take c.args.count c.args.b.now) cc)) (λ x b q k. search (rules, tests))
+    ∙ overlaps-any _ _

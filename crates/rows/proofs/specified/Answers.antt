@@ -1,20 +1,12 @@
-use mathlib.Core.Path.{◌≡◌, refl}
-use native.Mathlib.Omega.{arith}
-use Rattle.model.specs.Choose.{size}
-use Rattle.rows.proofs.Turns.{size-more}
+use mathlib.Core.Path.{◌≡◌, ◌∙◌, sym}
+use borrow.Author.Rules.{rules}
+use lib.ListN.{take}
+use Rattle.std.specs.List.{count_by}
+use Rattle.model.specs.Values.{is_specified}
+use Rattle.rows.proofs.Turns.{size-count}
 use Rattle.rows.proofs.specified.Goals as goal
-
-pub loop-s-init : goal.loop-s-init
-unfolding size
-loop-s-init c = (omega arith, omega arith, refl)
-
-pub loop-s-preserved : goal.loop-s-preserved
-loop-s-preserved c =
-    let loop = c.loop-s in
-    (omega arith, omega (arith, c.one_if-found.ensures.1), size-more c.args.row.now loop.s loop.found _ (omega arith) c.one_if-found.ensures.0 loop.invariant.2)
 
 pub returns : goal.returns
 returns c =
-    let loop = c.loop-s in
-    let end : loop.s ≡ c.args.count = omega arith in
-    (rw (← end) loop.invariant.2, omega arith)
+    let counted : c.count.result ≡ count_by is_specified (take c.args.count c.args.row.now) = search rules in
+    (counted ∙ sym (size-count _), search rules)

@@ -1,39 +1,47 @@
-use mathlib.Core.Option.{or_else}
 use mathlib.Core.Path.{◌≡◌, refl, sym, ◌∙◌}
-use mathlib.Core.Bool.{true, false}
-use lib.Dec.{ltb}
-use borrow.Author.Tests.{lt-ltb, le-ltb}
-use Rattle.model.specs.Inputs.{kind, pin_count}
-use Rattle.model.specs.Refusals.{refuse, pins_fit, rows2to5}
-use Rattle.model.proofs.Accepted.{few-pins}
+use mathlib.Core.Bool.{Bool, true, false, not}
+use Prim.Native.Nat.{◌≤◌}
+use Rattle.std.proofs.lemmas.Result.{err_from_is_err_and}
+use Rattle.model.specs.Refusals.{rows2to5}
+use Rattle.model.proofs.Accepted.{few-pins, refuse-none}
+use Rattle.lists.proofs.Tests.{is_true, clash}
 use Rattle.rules.specs.Check.{refusal_of}
+use Rattle.rules.proofs.Laws.{ended_early, went_on}
 use borrow.Author.Rules.{rules}
-use Rattle.rules.proofs.check_record.Goals.{After-pins_fit}
 use Rattle.rules.proofs.check_record.Goals as goal
 
--- row 2 passes, and row 3 is what was asked
-asked : (c : After-pins_fit) → let s = c.args in
-    (ltb 9 (kind s.c.now s.n) ≡ false) × (pins_fit (kind s.c.now s.n) (pin_count s.c.now s.n) ≡ c.pins_fit.result)
-asked c = let k = c.field-k.ensures.kind refl in (rw (← k) (le-ltb _ _ c.if-k-gt9.false), rw (← k, ← c.pins_of-pins.ensures.0) (sym c.pins_fit.ensures))
+fits : (b : Bool) → not b ≡ false → b ≡ true
+fits b e = is_true b (λ w. clash (not b) (rw w) e)
 
-pub returns-then-k-gt9 : goal.returns-then-k-gt9
-unfolding refusal_of rows2to5 refuse or_else
-returns-then-k-gt9 c = rw (← c.field-k.ensures.kind refl, lt-ltb _ _ c.if-k-gt9.true)
+pub returns-in_err-refuse : goal.returns-in_err-refuse
+unfolding refusal_of rows2to5
+returns-in_err-refuse c =
+    rw (← c.field-k.ensures.kind refl)
+    (ended_early _ (err_from_is_err_and c.from_residual.result c.from_residual.ensures.1) c.in_err-refuse.ensures)
 
-pub returns-then-not-pins_fit : goal.returns-then-not-pins_fit
-unfolding refusal_of rows2to5 refuse or_else
-returns-then-not-pins_fit c = let a = asked (goal.at.returns-then-not-pins_fit c).After-pins_fit in rw (a.0, a.1, c.if-not-pins_fit.true)
+pub returns-in_err-refuse-2 : goal.returns-in_err-refuse-2
+unfolding refusal_of rows2to5
+returns-in_err-refuse-2 c =
+    let e = c.from_residual-in_err-refuse-2 in
+    rw (← c.field-k.ensures.kind refl, ← c.pins_of-pins.ensures.0, ← c.pins_fit.ensures)
+    (went_on c.in_ok-refuse.ensures (ended_early _ (err_from_is_err_and e.result e.ensures.1) c.in_err-refuse-2.ensures))
 
-pub check_pins-requires : goal.check_pins-requires
-check_pins-requires c =
-    let fit : c.pins_fit.result ≡ true = c.if-not-pins_fit.false in
-    let few = few-pins _ _ ((asked (goal.at.check_pins-requires c).After-pins_fit).1 ∙ fit) in
-    let k = c.field-k.ensures.kind refl in
+pub returns-in_err-refuse-3 : goal.returns-in_err-refuse-3
+unfolding refusal_of rows2to5
+returns-in_err-refuse-3 c =
+    let e = c.from_residual-in_err-refuse-3 in
+    rw (← c.field-k.ensures.kind refl, ← c.pins_of-pins.ensures.0, ← c.pins_fit.ensures, ← c.has_stray_bytes-stray.ensures)
+    (went_on c.in_ok-refuse.ensures (went_on c.in_ok-refuse-2.ensures (ended_early _ (err_from_is_err_and e.result e.ensures.1) c.in_err-refuse-3.ensures)))
+
+pub misnames-misnamed-requires : goal.misnames-misnamed-requires
+unfolding refusal_of
+misnames-misnamed-requires c =
+    let fit = sym c.pins_fit.ensures ∙ fits _ (refuse-none _ 3 _ (sym c.in_ok-refuse-2.ensures)) in
+    let few : c.pins_of-pins.result ≤ 4 = few-pins _ _ fit in
     search rules
 
 pub returns : goal.returns
-unfolding rows2to5 refuse or_else
+unfolding refusal_of rows2to5
 returns c =
-    let fit : c.pins_fit.result ≡ true = c.if-not-pins_fit.false in
-    let a = asked (goal.at.returns c).After-pins_fit in
-    rw (a.0, a.1, fit) c.check_pins.ensures
+    rw (← c.field-k.ensures.kind refl, ← c.pins_of-pins.ensures.0, ← c.pins_fit.ensures, ← c.has_stray_bytes-stray.ensures, ← c.misnames-misnamed.ensures)
+    (went_on c.in_ok-refuse.ensures (went_on c.in_ok-refuse-2.ensures (went_on c.in_ok-refuse-3.ensures c.refuse-4.ensures)))

@@ -14,7 +14,7 @@ at : (c : In-loop-o) → OutputAt c.args.c.now c.args.outs.now c.loop-o.o
 at c = output-at _ _ c.requires.1 _ (below c)
 
 pub loop-o-init : goal.loop-o-init
-loop-o-init c = (omega arith, λ lane f vs l e. opposing_none lane _ (outputs c.args.c.now f vs))
+loop-o-init c = λ lane f vs l e. opposing_none lane _ (outputs c.args.c.now f vs)
 
 pub bounds-outs-o : goal.bounds-outs-o
 bounds-outs-o c = (at (goal.at.bounds-outs-o c).In-loop-o).place
@@ -23,16 +23,11 @@ pub read-x-requires : goal.read-x-requires
 read-x-requires c = omega (arith, (at (goal.at.read-x-requires c).In-loop-o).below, c.requires.3)
 
 pub loop-o-preserved : goal.loop-o-preserved
-loop-o-preserved c =
-    let loop = c.loop-o in
-    let inside = (goal.at.loop-o-preserved c).In-loop-o in (
-      omega (arith, c.loop-o-test.true),
-      λ lane f vs l e.
-          opposing_more lane _ (outputs _ f vs) _ _ _ _ (rw (length-outputs _ f vs) (below inside)) (omega (arith, c.loop-o-test.true, c.requires.4)) refl (loop.invariant.1 lane f vs l e)
-          (c.opposing-found.ensures lane _ (output-read _ f vs lane _ _ _ _ (at inside) c.read-x.ensures l e (below inside))),
-    )
+loop-o-preserved c = λ lane f vs l e.
+    let inside = (goal.at.loop-o-preserved c).In-loop-o in
+    opposing_more lane _ (outputs _ f vs) _ _ _ _ (rw (length-outputs _ f vs) (below inside)) (omega (arith, c.loop-o-test.true, c.requires.4)) refl (c.loop-o.invariant lane f vs l e)
+    (c.opposing-found.ensures lane _ (output-read _ f vs lane _ _ _ _ (at inside) c.read-x.ensures l e (below inside)))
 
 pub returns : goal.returns
 returns c = λ lane f vs s l e.
-    let loop = c.loop-o in
-    opposing_all lane _ (outputs _ f vs) _ loop.o (omega (arith, length-outputs c.args.c.now f vs, loop.invariant.0, c.loop-o-test.false, c.requires.2)) (loop.invariant.1 lane f vs l e)
+    opposing_all lane _ (outputs _ f vs) _ c.loop-o.o (omega (arith, length-outputs c.args.c.now f vs, c.loop-o-test.false, c.requires.2)) (c.loop-o.invariant lane f vs l e)

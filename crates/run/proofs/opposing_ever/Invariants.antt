@@ -1,7 +1,7 @@
 -- The lanes found are those in which some output opposes at a unit below u, and the state is the run's at u.
 use mathlib.Core.Path.{◌≡◌}
 use mathlib.Core.List.{List}
-use Prim.Native.Nat.{ℕ, ◌-◌, ◌≤◌}
+use Prim.Native.Nat.{ℕ}
 use lib.ListN.{length}
 use Rattle.lists.specs.Scan.{any_below}
 use Rattle.lists.specs.Field.{row_of}
@@ -14,9 +14,5 @@ use Rattle.run.proofs.opposing_ever.Given as goal
 
 abbrev pub invariant-loop-u : goal.invariant-loop-u
 invariant-loop-u l =
-    (l.u ≤ l.units) × (length l.feed ≡ length l.initial.feed) × (length l.words ≡ length l.initial.words) × (length l.state ≡ length l.initial.state)
-    × ((lane : ℕ) (f : Fault) (st : List ℕ) → Stuck lane l.hits l.masks f → Lane lane l.initial.state st → length st ≡ F l.c
-    → Lane lane l.state (state_at l.c l.t f st l.u) × (bit lane l.found ≡ any_below (λ u. some_oppose (row_of (O l.c) l.free u) (outputs_at l.c l.t f st u)) l.u))
-
-abbrev pub decreases-loop-u : goal.decreases-loop-u
-decreases-loop-u l = l.units - l.u
+    (lane : ℕ) (f : Fault) (st : List ℕ) → Stuck lane l.given.hits.now l.given.masks.now f → Lane lane l.initial.state st → length st ≡ F l.setup.circuit.now
+    → Lane lane l.state (state_at l.setup.circuit.now l.setup.test.now f st l.u) × (bit lane l.found ≡ any_below (λ u. some_oppose (row_of (O l.setup.circuit.now) l.free u) (outputs_at l.setup.circuit.now l.setup.test.now f st u)) l.u)

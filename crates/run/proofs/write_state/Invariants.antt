@@ -1,7 +1,7 @@
 -- The area begins with the first s bits of the state.
 use mathlib.Core.Path.{◌≡◌}
 use mathlib.Core.List.{List}
-use Prim.Native.Nat.{ℕ, ◌-◌, ◌≤◌}
+use Prim.Native.Nat.{ℕ, ◌≤◌}
 use lib.ListN.{length, take}
 use Rattle.lists.specs.Field.{overwritten}
 use Rattle.model.specs.Accepted.{ThreeValued}
@@ -9,8 +9,4 @@ use Rattle.lanes.specs.Lane.{Lane}
 use Rattle.run.proofs.write_state.Given as goal
 
 abbrev pub invariant-loop-s : goal.invariant-loop-s
-invariant-loop-s l =
-    (l.s ≤ l.count) × (length l.area ≡ length l.initial.area) × ((st : List ℕ) → Lane l.lane l.state st → l.count ≤ length st → ThreeValued st → l.area ≡ overwritten (take l.s st) l.initial.area)
-
-abbrev pub decreases-loop-s : goal.decreases-loop-s
-decreases-loop-s l = l.count - l.s
+invariant-loop-s l = (st : List ℕ) → Lane l.lane l.state st → l.count ≤ length st → ThreeValued st → l.area ≡ overwritten (take l.s st) l.initial.area

@@ -1,25 +1,21 @@
-use Rattle.std.proofs.Common.{refl, sym, ap, ◌∙◌, arith}
+use Rattle.std.proofs.Common.{sym, arith}
 use Rattle.sentences.proofs.Laws.{pins-kept}
-use Rattle.sentences.proofs.Forms.{next_of, tells_none, tells-gate, gate-short, gate-none, line-few, gate-some, line-of-kind}
+use Rattle.sentences.proofs.Forms.{tells_none, tells-gate, gate-short, gate_none, line-few, gate-some}
 use Rattle.sentences.proofs.gate_told.Goals as goal
 
-pub returns-then-count-lt4 : goal.returns-then-count-lt4
-returns-then-count-lt4 c =
-    let s = c.args in
-    record { next = ap next_of c.without.ensures; tells = tells_none _ _ _ 12 _ c.without.ensures (gate-short s.text.now s.parts.now s.count c.if-count-lt4.true) }
+pub returns-then-count-lt4-clause-tells : goal.returns-then-count-lt4-clause-tells
+returns-then-count-lt4-clause-tells c =
+    tells_none _ _ _ _ _ (λ k e. absurd (cc)) c.without.ensures (gate-short c.args.text.now c.args.parts.now c.if-count-lt4.true)
 
-pub kind_in-kind-requires : goal.kind_in-kind-requires
-kind_in-kind-requires c = (c.requires, omega (arith, c.if-count-lt4.false), sym (pins-kept c.args.text.now c.args.parts.now c.args.count))
+pub kind_in-requires : goal.kind_in-requires
+kind_in-requires c = (c.requires, omega (arith, c.if-count-lt4.false), sym (pins-kept c.args.text.now c.args.parts.now))
 
-pub returns-then-kind-eq0 : goal.returns-then-kind-eq0
-returns-then-kind-eq0 c =
-    let s = c.args in
-    let told = c.without-then-kind-eq0.ensures in
-    record { next = ap next_of told; tells = tells_none _ _ _ 12 _ told (gate-none s.text.now s.parts.now s.count (sym c.kind_in-kind.ensures ∙ c.if-kind-eq0.true)) }
+pub returns-in-Some-clause-tells : goal.returns-in-Some-clause-tells
+returns-in-Some-clause-tells c =
+    let found = c.in-Some.ensures in
+    let same = gate-some c.args.text.now c.args.parts.now found.0 in
+    tells-gate _ _ _ c.in-Some.kind _ found.2 (line-few c.args.text.now c.args.parts.now found.0) (rw found.1 at same)
 
-pub returns : goal.returns
-returns c =
-    let s = c.args in
-    let found = line-of-kind s.text.now s.parts.now s.count c.kind_in-kind.result c.kind_in-kind.ensures c.if-kind-eq0.false in
-    let same = gate-some s.text.now s.parts.now s.count found.0 in
-    record { next = refl; tells = tells-gate _ _ _ _ _ (line-few s.text.now s.parts.now s.count found.0) (rw (← found.1) at same) }
+pub returns-in-None-clause-tells : goal.returns-in-None-clause-tells
+returns-in-None-clause-tells c =
+    tells_none _ _ _ _ _ (λ k e. absurd (cc)) c.without-in-None.ensures (gate_none c.args.text.now c.args.parts.now c.in-None.ensures)

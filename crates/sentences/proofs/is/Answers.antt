@@ -9,4 +9,4 @@ unfolding is
 returns c =
     let text = c.args.text.now in
     c.same.ensures
-    ∙ ap (λ word. same word c.args.word.now) (c.token.ensures ∙ ap (bytes_of text) (sym (token-kept text c.args.parts.now c.args.count c.args.i c.requires.1)))
+    ∙ ap (λ word. same word c.args.word.now) (c.token.ensures ∙ ap (bytes_of text) (sym (token-kept text c.args.parts.now c.args.i c.requires.1)))

@@ -1,23 +1,13 @@
-use borrow.Author.Tests.{eq-eqb, ne_eqb}
+use Rattle.std.proofs.Common.{arith, length}
+use Rattle.std.proofs.lemmas.Grind.{common_steps}
 use Rattle.bench_text.specs.Sentence.{is_call}
 use Rattle.tokens.proofs.Laws.{length-kept}
 use Rattle.sentences.proofs.is_call.Goals as goal
 
-pub returns-then-count-ne4 : goal.returns-then-count-ne4
+pub returns-then-is_name : goal.returns-then-is_name
 unfolding is_call
-returns-then-count-ne4 c = rw (length-kept, ne_eqb _ _ c.if-count-ne4.true)
+returns-then-is_name c = grind (arith, common_steps, length-kept c.args.parts.now (length c.args.parts.now))
 
-pub returns : goal.returns
+pub returns-else-is_name : goal.returns-else-is_name
 unfolding is_call
-returns c =
-    rw (
-      length-kept,
-      eq-eqb _ _ c.if-count-ne4.false,
-      c.both.ensures,
-      c.both-named.ensures,
-      c.both-begins.ensures,
-      c.is-3.ensures,
-      c.is_name.ensures,
-      c.is-2.ensures,
-      c.is.ensures,
-    )
+returns-else-is_name c = grind (arith, common_steps, length-kept c.args.parts.now (length c.args.parts.now))

@@ -1,9 +1,11 @@
-use Rattle.std.proofs.Common.{◌≡◌, ◌≤◌, ◌-◌, ap, ◌∙◌, length, take, drop, arith, rules}
+use Rattle.std.proofs.Common.{◌≡◌, ◌≤◌, ◌-◌, ap, ◌∙◌, length, take, drop, arith, rules, length-take}
 use Rattle.bench_text.specs.Text.{tokens, line_tokens}
 use Rattle.bench_text.specs.Sentence.{sentence_from}
 use Rattle.bench_text.proofs.Sentences.{many_malformed}
-use Rattle.tokens.specs.Kept.{kept}
-use Rattle.sentences.proofs.Forms.{next_of, tells_none}
+use Rattle.tokens.specs.Kept.{kept, all_kept}
+use Rattle.tokens.proofs.Laws.{kept_take}
+use Rattle.sentences.proofs.Laws.{tells-all}
+use Rattle.sentences.proofs.Forms.{tells_none}
 use Rattle.sentences.proofs.Ends.{place_within, next-line, line-within, content_part, tokens-kept}
 use Rattle.sentences.proofs.read_line.Goals.{After-find-end, After-scan-count}
 use Rattle.sentences.proofs.read_line.Goals as goal
@@ -39,28 +41,32 @@ scanned c =
 all : (c : After-scan-count) → c.scan-count.result ≤ 12 → kept c.scan-count.new.parts c.scan-count.result ≡ line_tokens c.args.text.now c.args.at
 all c few = c.scan-count.ensures.scans.all few ∙ scanned c
 
-pub returns-then-count-gt12 : goal.returns-then-count-gt12
+pub returns-then-count-gt12-clause-next : goal.returns-then-count-gt12-clause-next
+returns-then-count-gt12-clause-next c =
+    ap (λ l. l.next) c.without.ensures ∙ next-line c.args.text.now c.args.at _ c.requires.0 c.find-end.ensures
+
+pub returns-then-count-gt12-clause-tells : goal.returns-then-count-gt12-clause-tells
 unfolding sentence_from
-returns-then-count-gt12 c =
-    let d = (goal.at.returns-then-count-gt12 c).After-scan-count in
+returns-then-count-gt12-clause-tells c =
+    let d = (goal.at.returns-then-count-gt12-clause-tells c).After-scan-count in
     let text = c.args.text.now in
-    record {
-      room = c.scan-count.ensures.room;
-      next = ap next_of c.without.ensures ∙ next-line text c.args.at _ c.requires.0 c.find-end.ensures;
-      tells = tells_none _ _ _ 12 _ c.without.ensures (many_malformed text (line_tokens text c.args.at) (rw (← scanned d) (c.scan-count.ensures.scans.more c.if-count-gt12.true)));
-    }
+    tells_none _ _ _ _ _ (λ k e. absurd (cc)) c.without.ensures (many_malformed text (line_tokens text c.args.at) (rw (← scanned d) (c.scan-count.ensures.scans.more c.if-count-gt12.true)))
+
+-- those that are kept are lent
+lent : (c : After-scan-count) → c.scan-count.result ≤ 12 → all_kept (take c.scan-count.result c.scan-count.new.parts) ≡ line_tokens c.args.text.now c.args.at
+lent c few = kept_take c.scan-count.new.parts c.scan-count.result (omega (arith, few, c.scan-count.ensures.room)) ∙ all c few
 
 pub told-requires : goal.told-requires
 told-requires c =
     let few : c.scan-count.result ≤ 12 = omega (arith, c.if-count-gt12.false) in
-    tokens-kept c.args.text.now c.args.at _ _ c.scan-count.ensures.room few (all (goal.at.told-requires c).After-scan-count few)
+    tokens-kept c.args.text.now c.args.at _ (omega (arith, few, length-take c.scan-count.result c.scan-count.new.parts)) (lent (goal.at.told-requires c).After-scan-count few)
 
-pub returns : goal.returns
+pub returns-clause-next : goal.returns-clause-next
+returns-clause-next c = c.told.ensures.next ∙ next-line c.args.text.now c.args.at _ c.requires.0 c.find-end.ensures
+
+pub returns-clause-tells : goal.returns-clause-tells
 unfolding sentence_from
-returns c =
+returns-clause-tells c =
     let few : c.scan-count.result ≤ 12 = omega (arith, c.if-count-gt12.false) in
-    record {
-      room = c.scan-count.ensures.room;
-      next = c.told.ensures.next ∙ next-line c.args.text.now c.args.at _ c.requires.0 c.find-end.ensures;
-      tells = rw (← all (goal.at.returns c).After-scan-count few) c.told.ensures.tells;
-    }
+    let tells = rw (lent (goal.at.returns-clause-tells c).After-scan-count few) at c.told.ensures.tells in
+    tells-all c.scan-count.new.parts c.scan-count.result _ _ (omega (arith, c.told.ensures.kept, length-take c.scan-count.result c.scan-count.new.parts)) tells

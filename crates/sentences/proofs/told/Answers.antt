@@ -1,47 +1,50 @@
-use mathlib.Core.Path.{◌≡◌, refl, sym, ap, ◌∙◌}
-use mathlib.Core.Bool.{false}
-use lib.ListN.{length}
-use lib.Dec.{eqb}
-use borrow.Author.Tests.{eq-eqb, ne_eqb}
+use Rattle.std.proofs.Common.{◌≡◌, sym, ◌∙◌, true, false, eqb, length, arith}
 use Rattle.bench_text.specs.Sentence.{input_word, output_word, is_call, sentence}
-use Rattle.tokens.specs.Kept.{kept}
+use Rattle.tokens.specs.Kept.{all_kept}
 use Rattle.tokens.proofs.Laws.{length-kept}
-use Rattle.sentences.proofs.Forms.{next_of, tells_none, tells_input, tells-output, call_token}
+use Rattle.sentences.proofs.Forms.{tells_none, tells_input, tells-output, call-length, call_token}
 use Rattle.sentences.proofs.told.Goals.{After-is_call, After-is_call-2}
 use Rattle.sentences.proofs.told.Goals as goal
 
 -- there are tokens
-some : (c : After-is_call) → let s = c.args in eqb (length (kept s.parts.now s.count)) 0 ≡ false
-some c = rw length-kept (ne_eqb _ _ c.if-count-eq0.false)
+some : (c : After-is_call) → eqb (length (all_kept c.args.parts.now)) 0 ≡ false
+some c = rw length-kept (sym c.is_empty.ensures ∙ c.if-is_empty.false)
 
 -- and it is no input
-other : (c : After-is_call-2) → let s = c.args in is_call s.text.now (kept s.parts.now s.count) input_word ≡ false
+other : (c : After-is_call-2) → is_call c.args.text.now (all_kept c.args.parts.now) input_word ≡ false
 other c = sym c.is_call.ensures ∙ c.if-is_call.false
 
-pub returns-then-count-eq0 : goal.returns-then-count-eq0
+pub returns-then-is_empty-clause-tells : goal.returns-then-is_empty-clause-tells
 unfolding sentence
-returns-then-count-eq0 c =
-    let s = c.args in
-    record { next = ap next_of c.without.ensures; tells = tells_none _ _ _ 11 _ c.without.ensures (rw (length-kept s.parts.now s.count, eq-eqb _ _ c.if-count-eq0.true)) }
+returns-then-is_empty-clause-tells c =
+    let none : eqb (length c.args.parts.now) 0 ≡ true = sym c.is_empty.ensures ∙ c.if-is_empty.true in
+    tells_none _ _ _ _ _ (λ k e. absurd (cc)) c.without.ensures (rw (length-kept, none))
 
-pub returns-then-is_call : goal.returns-then-is_call
+pub bounds-parts-2 : goal.bounds-parts-2
+bounds-parts-2 c =
+    let four = call-length c.args.text.now c.args.parts.now input_word (sym c.is_call.ensures ∙ c.if-is_call.true) in
+    omega (arith, four)
+
+pub returns-then-is_call-clause-tells : goal.returns-then-is_call-clause-tells
 unfolding sentence
-returns-then-is_call c =
-    let s = c.args in
+returns-then-is_call-clause-tells c =
     let input = sym c.is_call.ensures ∙ c.if-is_call.true in
-    record { next = refl; tells = tells_input _ _ _ (rw (some (goal.at.returns-then-is_call c).After-is_call, input, call_token s.text.now s.parts.now s.count input_word input)) }
+    tells_input _ _ _ (rw (some (goal.at.returns-then-is_call-clause-tells c).After-is_call, input, call_token c.args.text.now c.args.parts.now input_word input))
 
-pub returns-then-is_call-2 : goal.returns-then-is_call-2
+pub returns-then-is_call-2-clause-tells : goal.returns-then-is_call-2-clause-tells
 unfolding sentence
-returns-then-is_call-2 c =
-    let s = c.args in
-    let d = goal.at.returns-then-is_call-2 c in
+returns-then-is_call-2-clause-tells c =
+    let d = goal.at.returns-then-is_call-2-clause-tells c in
     let output = sym c.is_call-2.ensures ∙ c.if-is_call-2.true in
-    record { next = refl; tells = tells-output _ _ _ (rw (some d.After-is_call, other d.After-is_call-2, output, call_token s.text.now s.parts.now s.count output_word output)) }
+    tells-output _ _ _ (rw (some d.After-is_call, other d.After-is_call-2, output, call_token c.args.text.now c.args.parts.now output_word output))
 
-pub returns : goal.returns
+pub returns-then-is_call-2-clause-kept : goal.returns-then-is_call-2-clause-kept
+returns-then-is_call-2-clause-kept c =
+    omega (arith, call-length c.args.text.now c.args.parts.now output_word (sym c.is_call-2.ensures ∙ c.if-is_call-2.true))
+
+pub returns-clause-tells : goal.returns-clause-tells
 unfolding sentence
-returns c =
-    let d = goal.at.returns c in
+returns-clause-tells c =
+    let d = goal.at.returns-clause-tells c in
     let none = sym c.is_call-2.ensures ∙ c.if-is_call-2.false in
-    record { next = c.gate_told.ensures.next; tells = rw (some d.After-is_call, other d.After-is_call-2, none) c.gate_told.ensures.tells }
+    rw (some d.After-is_call, other d.After-is_call-2, none) c.gate_told.ensures.tells

@@ -1,7 +1,6 @@
 use mathlib.Core.Path.{sym, ◌∙◌}
 use Prim.Native.Nat.{◌<◌}
 use native.Mathlib.Omega.{arith}
-use Rattle.lists.proofs.Field.{row_fits}
 use Rattle.model.specs.Inputs.{L}
 use Rattle.lanes.proofs.Follows.{follows-start}
 use Rattle.sequences.proofs.Units.{entered-end, entered-list}
@@ -9,12 +8,6 @@ use Rattle.sequences.proofs.enter_unit.Goals as goal
 
 pub returns-then-u-units : goal.returns-then-u-units
 returns-then-u-units c = record { lane = λ cs ts f pairs lane vs e same lists h long clear old. entered-end cs ts f pairs _ lane _ _ vs (omega (arith, same, c.if-u-units.true)) clear old }
-
-pub give_list-requires : goal.give_list-requires
-give_list-requires c =
-    let below = c.if-u-units.false in
-    let pre = c.requires in
-    (pre.0, pre.1, pre.2, pre.3, omega (arith, below, pre.4), omega (arith, pre.5, row_fits c.args.count c.args.u c.args.units (omega (arith, below))))
 
 pub returns : goal.returns
 returns c =

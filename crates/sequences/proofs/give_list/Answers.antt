@@ -6,9 +6,6 @@ use Rattle.model.specs.Expansion.{state_row}
 use Rattle.sequences.proofs.Lists.{length_part, state-clear}
 use Rattle.sequences.proofs.give_list.Goals as goal
 
-pub give_row-requires : goal.give_row-requires
-give_row-requires c = let part = length_part _ c.args.u _ c.requires.5 in (part, part, c.requires.3)
-
 pub returns : goal.returns
 returns c =
     let list = c.args.list.now in

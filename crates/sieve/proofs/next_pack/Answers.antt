@@ -1,5 +1,5 @@
-use Rattle.std.proofs.Common.{arith}
-use Rattle.sieve.proofs.Laws.{packing_past, packing_more, mark_true, mark-false}
+use Rattle.std.proofs.Common.{◌≡◌, arith}
+use Rattle.sieve.proofs.Laws.{packing_past, packing_more, packed, mark_true, mark-false}
 use Rattle.sieve.proofs.next_pack.Goals as goal
 use Rattle.sieve.proofs.next_pack.Goals.{then-res-j-eq0, else-res-j-eq0}
 
@@ -12,3 +12,8 @@ loop-j-preserved c =
           (packing_more p h (mark_true _ _ w.if-res-j-eq0.true) (omega (arith, p.lanes, c.if-size-eq64.false)) w.copy_fault.ensures)
       | else-res-j-eq0 w ↦ rw (w.few-is, w.size-is) (packing_past p h (mark-false _ _ w.if-res-j-eq0.false))
     ]
+
+pub returns : goal.returns
+returns c =
+    let end : c.loop-j.j ≡ c.args.most = omega arith in
+    packed (rw end at c.loop-j.invariant) (λ h. h)

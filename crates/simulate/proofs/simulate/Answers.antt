@@ -3,43 +3,47 @@ use mathlib.Core.Option.{none}
 use native.Mathlib.Omega.{arith}
 use native.Mathlib.Nat.{mul-le-mul}
 use lib.ListN.{length}
+use Rattle.std.proofs.lemmas.Result.{err_from_is_err_and}
 use Rattle.model.specs.Refusals.{done, simulate_refusal}
 use Rattle.model.specs.Simulate.{simulate_answer, simulate_area}
-use Rattle.model.proofs.Accepted.{simulate_ready, answer-done, answer-refused, area-done, area-refused}
+use Rattle.model.proofs.Accepted.{simulate_ready, answer-done, area-done, area-refused}
+use Rattle.rules.specs.Check.{refusal_of}
 use Rattle.job.specs.Job.{answer_of, JobOf}
-use Rattle.job.proofs.Laws.{ready-none, broken_some, response_size}
-use Rattle.simulate.proofs.simulate.Goals.{In-Ready}
+use Rattle.job.proofs.Laws.{refuses, response_size}
+use Rattle.simulate.proofs.simulate.Goals.{In_ok-job}
 use Rattle.simulate.proofs.simulate.Goals as goal
 
 -- no row is broken
-passed : (c : In-Ready) → let s = c.args in simulate_refusal s.circuit.now s.test.now s.faults.now (length s.work.now) (length s.res.now) ≡ none
-passed c = ready-none c.in-Ready.ensures refl
+passed : (c : In_ok-job) → let s = c.args in simulate_refusal s.circuit.now s.test.now s.faults.now (length s.work.now) (length s.res.now) ≡ none
+unfolding refusal_of
+passed c = sym c.in_ok-job.ensures.refusal
 
-sizes : (c : In-Ready) → JobOf c.args.circuit.now c.args.test.now c.in-Ready.job
-sizes c = c.in-Ready.ensures.job _ refl
+sizes : (c : In_ok-job) → JobOf c.args.circuit.now c.args.test.now c.in_ok-job.job
+sizes c = c.in_ok-job.ensures.job _ refl
 
-pub overflow_mul-size : goal.overflow_mul-size
-overflow_mul-size c =
-    let here = (goal.at.overflow_mul-size c).In-Ready in
-    let valid = (simulate_ready _ _ _ _ _ (passed here)).inputs in
-    omega (arith, response_size (sizes here), mul-le-mul valid.test.most valid.circuit.outputs)
+pub returns-in_err-job : goal.returns-in_err-job
+unfolding refusal_of simulate_answer simulate_area
+returns-in_err-job c =
+    let h = err_from_is_err_and c.from_residual.result c.from_residual.ensures.1 in
+    let broken = c.in_err-job.ensures.refusal in
+    record { answers = refuses _ h broken; writes = sym (area-refused _ _ _ _ (sym broken)); keeps = refl }
 
 pub respond-requires : goal.respond-requires
 respond-requires c =
-    let here = (goal.at.respond-requires c).In-Ready in
+    let here = (goal.at.respond-requires c).In_ok-job in
     let ready = simulate_ready _ _ _ _ _ (passed here) in
     (ready.inputs, sizes here, ready.result_room)
 
-pub returns-in-Broken : goal.returns-in-Broken
-unfolding answer_of simulate_answer simulate_area
-returns-in-Broken c =
-    let broken = broken_some c.in-Broken.ensures refl in
-    record { answers = sym (answer-refused _ _ _ broken); writes = sym (area-refused _ _ _ _ broken); keeps = refl }
+pub overflow_mul-result : goal.overflow_mul-result
+overflow_mul-result c =
+    let here = (goal.at.overflow_mul-result c).In_ok-job in
+    let valid = (simulate_ready _ _ _ _ _ (passed here)).inputs in
+    omega (arith, response_size (sizes here), mul-le-mul valid.test.most valid.circuit.outputs)
 
-pub returns-in-Ready : goal.returns-in-Ready
+pub returns : goal.returns
 unfolding answer_of simulate_answer simulate_area
-returns-in-Ready c =
-    let here = (goal.at.returns-in-Ready c).In-Ready in
+returns c =
+    let here = (goal.at.returns c).In_ok-job in
     let none = passed here in
     record {
       answers = ap done (response_size (sizes here)) ∙ sym (answer-done _ _ none);

@@ -1,41 +1,38 @@
-use Rattle.std.proofs.Common.{◌≡◌, ◌*◌, arith, sym, ◌∙◌}
-use Rattle.model.specs.Inputs.{F, L}
+use Rattle.std.proofs.Common.{◌*◌, ◌<◌, arith, sym, ◌∙◌}
 use Rattle.expand.proofs.Begin.{product_as, factor-some}
 use Rattle.stages.proofs.Laws.{flops-room, pair-named, graded-before, standing-again, tables-lent}
 use Rattle.stages.proofs.later_stages.Goals as goal
 
-pub returns-then-middle-eq0 : goal.returns-then-middle-eq0
-returns-then-middle-eq0 c = record {
+pub returns-in-Nothing : goal.returns-in-Nothing
+returns-in-Nothing c = record {
   verdict = λ f stuck fault open_first.
       let said = c.middle_stages-middle.ensures.opened f stuck fault open_first (tables-lent c.trace.ensures f c.requires.0.tabled.sizes stuck) in
-      c.placed.ensures ∙ sym (graded-before _ _ f _ _ _ (said.nothing c.if-middle-eq0.true));
+      c.placed.ensures ∙ sym (graded-before _ _ f _ _ _ (said.nothing c.in-Nothing.is));
   stands = λ f. standing-again c.trace.ensures f c.requires.1 c.trace.auto.work;
 }
 
 pub at_pair-requires : goal.at_pair-requires
 at_pair-requires c =
     let g = c.requires.0.tabled in
-    (factor-some _ _ _ c.if-middle-job.true, rw g.sizes.flops (flops-room _ _ g.tables.flop_table))
+    let low : c.in-Decided.e < c.args.setup.now.job.flops * c.args.setup.now.job.units =
+    omega (arith, product_as _ _ _ _ g.sizes.flops g.sizes.units, c.middle_stages-middle.ensures.inside _ c.in-Decided.is) in
+    (factor-some _ _ _ low, rw g.sizes.flops (flops-room _ _ g.tables.flop_table))
 
-pub returns-then-middle-job : goal.returns-then-middle-job
-returns-then-middle-job c =
+pub returns-in-Decided : goal.returns-in-Decided
+returns-in-Decided c =
     let g = c.requires.0.tabled in
-    let positions : c.args.job.flops * c.args.job.units ≡ L c.args.c.now c.args.t.now * F c.args.c.now = product_as _ _ _ _ g.sizes.flops g.sizes.units in record {
+    let low : c.in-Decided.e < c.args.setup.now.job.flops * c.args.setup.now.job.units =
+    omega (arith, product_as _ _ _ _ g.sizes.flops g.sizes.units, c.middle_stages-middle.ensures.inside _ c.in-Decided.is) in record {
       verdict = λ f stuck fault open_first.
           let said = c.middle_stages-middle.ensures.opened f stuck fault open_first (tables-lent c.trace.ensures f g.sizes stuck) in
-          c.at_pair.ensures ∙ pair-named _ _ _ _ g.sizes.flops (factor-some _ _ _ c.if-middle-job.true) g.tables.flop_table
-          ∙ sym (graded-before _ _ f _ _ _ (said.decided (omega (arith, c.if-middle-eq0.false)) (omega (arith, positions, c.if-middle-job.true))));
+          c.at_pair.ensures ∙ pair-named _ _ _ _ g.sizes.flops (factor-some _ _ _ low) g.tables.flop_table ∙ sym (graded-before _ _ f _ _ _ (said.decided _ c.in-Decided.is));
       stands = λ f. standing-again c.trace.ensures f c.requires.1 c.trace.auto.work;
     }
 
-pub returns : goal.returns
-returns c =
-    let g = c.requires.0.tabled in
-    let positions : c.args.job.flops * c.args.job.units ≡ L c.args.c.now c.args.t.now * F c.args.c.now = product_as _ _ _ _ g.sizes.flops g.sizes.units in record {
-      verdict = λ f stuck fault open_first.
-          let said = c.middle_stages-middle.ensures.opened f stuck fault open_first (tables-lent c.trace.ensures f g.sizes stuck) in
-          let some = c.if-middle-eq0.false in
-          let end = c.if-middle-job.false in
-          c.last_stages.ensures f (said.ready (omega (arith, some)) (omega (arith, positions, end))) (said.undecided (omega (arith, some)) (omega (arith, positions, end)));
-      stands = λ f. standing-again c.trace.ensures f c.requires.1 c.trace.auto.work;
-    }
+pub returns-in-Open : goal.returns-in-Open
+returns-in-Open c = record {
+  verdict = λ f stuck fault open_first.
+      let said = c.middle_stages-middle.ensures.opened f stuck fault open_first (tables-lent c.trace.ensures f c.requires.0.tabled.sizes stuck) in
+      c.last_stages.ensures f (said.ready _ c.in-Open.is) (said.undecided _ c.in-Open.is);
+  stands = λ f. standing-again c.trace.ensures f c.requires.1 c.trace.auto.work;
+}

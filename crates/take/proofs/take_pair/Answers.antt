@@ -3,7 +3,7 @@ use Rattle.model.specs.Inputs.{F, L}
 use Rattle.job.specs.declared.Job.{Job}
 use Rattle.run.specs.Run.{Runnable}
 use Rattle.take.specs.Take.{may_take}
-use Rattle.take.proofs.Table.{long_as, row_as, row_room, pair-room, table-room}
+use Rattle.take.proofs.Table.{long_as, row_as, row_room, pair-room}
 use Rattle.take.proofs.Tests.{may_as, may_names}
 use Rattle.take.proofs.Step.{step-passed, step_touched, step-taken}
 use Rattle.take.proofs.take_pair.Goals as goal
@@ -17,14 +17,11 @@ module _ {c t : List ℕ} {job : Job} {pins flops outs hits masks feed words sta
   names : r ≡ true → (m < k) × (u < L c t) × (i < F c)
   names h = may_names _ _ _ _ _ _ _ _ (may ∙ h)
 
-pub may_take-requires : goal.may_take-requires
-may_take-requires c = table-room _ _ _ _ _ c.requires.0.sizes.units c.requires.0.sizes.flops c.requires.3
-
 pub returns-then-not-may_take : goal.returns-then-not-may_take
 returns-then-not-may_take c = record {
   most = c.requires.4;
   next = λ f pairs ready old.
-      step-passed c.args.c.now c.args.t.now f _ _ _ _ _ _ _ _ _ _ c.args.job.flops pairs _ _ ready c.requires.3 old
+      step-passed c.args.setup.now.circuit.now c.args.setup.now.test.now f _ _ _ _ _ _ _ _ _ _ c.args.setup.now.job.flops pairs _ _ ready c.requires.3 old
       (may c.requires.0 _ _ _ _ _ _ c.may_take.ensures ∙ c.if-not-may_take.true);
 }
 
@@ -33,7 +30,7 @@ make_extras-requires c =
     let pre = c.requires in
     let named = names pre.0 _ _ _ _ _ _ c.may_take.ensures c.if-not-may_take.false in
     let few : c.args.m < 12 = omega (arith, named.0, pre.5) in
-    (pre.0, pre.1, pre.2, named.1, named.2, few, pre.6, pre.7, pair-room _ _ _ few pre.9)
+    (pre.0, pre.1, pre.2, named.1, named.2, few, pair-room _ _ _ few pre.7)
 
 pub touches-requires : goal.touches-requires
 touches-requires c =
@@ -42,9 +39,9 @@ touches-requires c =
     let named = names run _ _ _ _ _ _ c.may_take.ensures c.if-not-may_take.false in
     let few : c.args.m < 12 = omega (arith, named.0, pre.5) in (
       few,
-      omega (arith, few, pre.8),
+      omega (arith, few, pre.6),
       row_room _ _ _ _ _ run.sizes.flops named.1 pre.3,
-      row_as _ _ _ _ run.sizes.flops (long_as _ _ _ c.make_extras.auto.extras (pair-room _ _ _ few pre.9)),
+      row_as _ _ _ _ run.sizes.flops (long_as _ _ _ c.make_extras.auto.extras (pair-room _ _ _ few pre.7)),
     )
 
 pub returns-then-touches : goal.returns-then-touches
@@ -54,12 +51,12 @@ returns-then-touches c =
     let few : c.args.m < 12 = omega (arith, named.0, pre.5) in record {
       most = pre.4;
       next = λ f pairs ready old.
-          step_touched c.args.c.now c.args.t.now f _ _ _ _ _ _ _ _ _ _ _ pairs _ _ ready pre.3 old _ _ (pair-room _ _ _ few pre.9) pre.0.sizes.flops named.1 c.make_extras.ensures
+          step_touched c.args.setup.now.circuit.now c.args.setup.now.test.now f _ _ _ _ _ _ _ _ _ _ _ pairs _ _ ready pre.3 old _ _ (pair-room _ _ _ few pre.7) pre.0.sizes.flops named.1 c.make_extras.ensures
           c.touches.ensures c.if-touches.true;
     }
 
 pub bounds-times-m : goal.bounds-times-m
-bounds-times-m c = let named = names c.requires.0 _ _ _ _ _ _ c.may_take.ensures c.if-not-may_take.false in omega (arith, named.0, c.requires.5, c.requires.8)
+bounds-times-m c = let named = names c.requires.0 _ _ _ _ _ _ c.may_take.ensures c.if-not-may_take.false in omega (arith, named.0, c.requires.5, c.requires.6)
 
 pub returns : goal.returns
 returns c =
@@ -69,6 +66,6 @@ returns c =
     let few : c.args.m < 12 = omega (arith, named.0, pre.5) in record {
       most = omega (arith, named.0);
       next = λ f pairs ready old.
-          step-taken c.args.c.now c.args.t.now f _ _ _ _ _ _ _ _ _ _ _ pairs _ _ ready pre.3 old _ _ (pair-room _ _ _ few pre.9) pre.0.sizes.flops named.1 c.make_extras.ensures
-          c.touches.ensures (may pre.0 _ _ _ _ _ _ c.may_take.ensures ∙ allowed) c.if-touches.false (omega (arith, few, pre.8));
+          step-taken c.args.setup.now.circuit.now c.args.setup.now.test.now f _ _ _ _ _ _ _ _ _ _ _ pairs _ _ ready pre.3 old _ _ (pair-room _ _ _ few pre.7) pre.0.sizes.flops named.1 c.make_extras.ensures
+          c.touches.ensures (may pre.0 _ _ _ _ _ _ c.may_take.ensures ∙ allowed) c.if-touches.false (omega (arith, few, pre.6));
     }

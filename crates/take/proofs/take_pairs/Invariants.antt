@@ -1,5 +1,5 @@
 -- The first n pairs of the plan are gone through, and m of them taken.
-use Rattle.std.proofs.Common.{◌-◌, ◌≤◌}
+use Rattle.std.proofs.Common.{◌≤◌}
 use Rattle.model.specs.Inputs.{Fault}
 use Rattle.model.specs.Sequences.{taken_of}
 use Rattle.sequences.specs.Ends.{Taken}
@@ -8,10 +8,6 @@ use Rattle.take.proofs.take_pairs.Given as goal
 
 abbrev pub invariant-loop-n : goal.invariant-loop-n
 invariant-loop-n l = record {
-  within : l.n ≤ l.count;
   most : l.m ≤ l.k;
-  taken : (f : Fault) → Prepared l.c l.t l.free l.states l.list l.hits l.masks l.left f → Taken l.c l.t f (taken_of l.c l.t f l.plan l.k l.n) l.m l.times l.extras;
+  taken : (f : Fault) → Prepared l.setup.circuit.now l.setup.test.now l.free l.states l.list l.given.hits.now l.given.masks.now l.left f → Taken l.setup.circuit.now l.setup.test.now f (taken_of l.setup.circuit.now l.setup.test.now f l.plan l.k l.n) l.m l.times l.extras;
 }
-
-abbrev pub decreases-loop-n : goal.decreases-loop-n
-decreases-loop-n l = l.count - l.n

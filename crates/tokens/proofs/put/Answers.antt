@@ -12,4 +12,4 @@ pub returns-clause-keeps : goal.returns-clause-keeps
 unfolding part_if
 returns-clause-keeps c =
     let n = c.args.count in
-    rw (add-one n, ne_eqb _ _ c.if-size-eq0.false) (kept_put c.args.parts.now n c.args.at c.args.size (omega (arith, c.requires)))
+    rw (add-one n, ne_eqb _ _ c.if-size-eq0.false) (kept_put c.args.parts.now n (record { at = c.args.at; size = c.args.size }) (omega (arith, c.requires)))

@@ -15,17 +15,15 @@ here c =
 
 pub loop-i-init : goal.loop-i-init
 unfolding kept
-loop-i-init c = record { within = c.requires.0; run_in = omega arith; few = omega arith; room = c.requires.2; same = refl }
+loop-i-init c = record { run_in = omega arith; few = omega arith; same = refl }
 
 pub loop-i-preserved-then-is_name_byte : goal.loop-i-preserved-then-is_name_byte
 loop-i-preserved-then-is_name_byte c =
     let d = (goal.at.loop-i-preserved-then-is_name_byte c).After-is_name_byte in
     let l = c.loop-i in
     record {
-      within = omega (arith, c.loop-i-test.true);
       run_in = omega (arith, l.invariant.run_in);
       few = l.invariant.few;
-      room = l.invariant.room;
       same = rw (add-one l.i, add-one l.run) (goes_on (kept l.parts l.count) l.i l.run (get_or c.args.text.now l.i 0) (rest c.args.text.now c.args.to (suc l.i)) (here d) (sym c.is_name_byte.ensures ∙ c.if-is_name_byte.true));
     }
 
@@ -42,25 +40,25 @@ loop-i-preserved c =
     let run = kept l.parts l.count ++ run_before l.i l.run in
     let two = c.put-count-in-loop-i.ensures in
     let one = c.put-count.ensures in
-    let byte' = ap (part_if l.i) c.one_if.ensures.0 ∙ byte-part l.i b in
-    let next = ap (λ ts. ts ++ tokens (suc l.i) 0 on) (two.keeps ∙ ap (λ ts. ts ++ part_if l.i c.one_if.result) one.keeps ∙ ap (λ ts. run ++ ts) byte')
+    let byte' = ap (part_if l.i) c.from.ensures ∙ byte-part l.i b in
+    let next = ap (λ ts. ts ++ tokens (suc l.i) 0 on) (two.keeps ∙ ap (λ ts. ts ++ part_if l.i c.from.result) one.keeps ∙ ap (λ ts. run ++ ts) byte')
     ∙ ends (kept l.parts l.count) l.i l.run b on (here d) (sym c.is_name_byte.ensures ∙ c.if-is_name_byte.false) in
     record {
-      within = omega (arith, c.loop-i-test.true);
       run_in = omega arith;
       few = omega (arith, two.longer, one.longer, c.if-count-gt12.false);
-      room = two.room;
       same = rw (add-one l.i) next;
     }
 
-pub returns-then-count-gt12 : goal.returns-then-count-gt12
-returns-then-count-gt12 c = record { room = c.loop-i.invariant.room; scans = scanned_more _ _ _ _ c.if-count-gt12.true c.loop-i.invariant.same }
+pub returns-then-count-gt12-clause-scans : goal.returns-then-count-gt12-clause-scans
+returns-then-count-gt12-clause-scans c = scanned_more _ _ _ _ c.if-count-gt12.true c.loop-i.invariant.same
 
 -- the token that the end of the bytes ends
-pub returns : goal.returns
+pub returns-clause-scans : goal.returns-clause-scans
 unfolding tokens run_before part_if
-returns c =
+returns-clause-scans c =
     let l = c.loop-i in
-    let none : c.args.to - l.i ≡ 0 = omega (arith, l.invariant.within, c.loop-i-test.false) in
-    let end = ap (λ n. kept l.parts l.count ++ tokens l.i l.run (take n (drop l.i c.args.text.now))) none in
-    record { room = c.put.ensures.room; scans = scanned_all _ _ _ (c.put.ensures.keeps ∙ sym end ∙ l.invariant.same) }
+    let end : l.i ≡ c.args.to = omega arith in
+    let none : c.args.to - l.i ≡ 0 = omega arith in
+    let no_more = ap (λ n. kept l.parts l.count ++ tokens l.i l.run (take n (drop l.i c.args.text.now))) none in
+    let all = sym no_more ∙ l.invariant.same in
+    scanned_all _ _ _ (c.put.ensures.keeps ∙ (rw end at all))

@@ -1,9 +1,6 @@
 -- The last `run` bytes before place i belong to a run of name bytes that goes on; the tokens that end before it are kept, and those of the
 -- bytes from i on make up, with them, all of the line's.
-use mathlib.Core.Path.{◌≡◌}
-use mathlib.Core.List.{◌++◌}
-use Prim.Native.Nat.{◌-◌, ◌≤◌}
-use lib.ListN.{length}
+use Rattle.std.proofs.Common.{◌≡◌, ◌++◌, ◌≤◌}
 use Rattle.bench_text.specs.Text.{tokens}
 use Rattle.tokens.specs.Kept.{kept}
 use Rattle.tokens.proofs.Laws.{rest}
@@ -12,12 +9,7 @@ use Rattle.tokens.proofs.scan.Given as goal
 abbrev pub invariant-loop-i : goal.invariant-loop-i
 invariant-loop-i l =
     record {
-      within : l.i ≤ l.to;
       run_in : l.run ≤ l.i;
       few : l.count ≤ 14;
-      room : length l.parts ≡ 32;
       same : kept l.parts l.count ++ tokens l.i l.run (rest l.text l.to l.i) ≡ tokens l.from 0 (rest l.text l.to l.from);
     }
-
-abbrev pub decreases-loop-i : goal.decreases-loop-i
-decreases-loop-i l = l.to - l.i

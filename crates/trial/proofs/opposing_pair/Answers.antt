@@ -1,15 +1,9 @@
 use mathlib.Core.Path.{ap, ◌∙◌}
-use Rattle.lists.proofs.Field.{part-row, part-long}
+use Rattle.lists.proofs.Field.{part-row}
 use Rattle.model.specs.Values.{some_oppose}
 use Rattle.model.specs.Simulation.{outputs}
-use Rattle.trial.proofs.Laws.{carried_same, carried-more, word_below, word-above}
+use Rattle.trial.proofs.Laws.{carried-more, word_below, word-above}
 use Rattle.trial.proofs.opposing_pair.Goals as goal
-
-pub returns-then-not-begins : goal.returns-then-not-begins
-returns-then-not-begins c = λ f vs s e. let same = c.begins.ensures c.if-not-begins.true in carried_same _ _ _ same.0 same.1
-
-pub opposing-more-requires : goal.opposing-more-requires
-opposing-more-requires c = let pre = c.requires in (pre.0, pre.1, pre.2, pre.3, part-long _ _ _ pre.6)
 
 pub returns : goal.returns
 returns c = λ f vs s e.

@@ -38,21 +38,6 @@ pairs c t f vs turned or free l e =
       c.and-2.ensures t _ _ (c.free_pin-third.ensures t f vs free l e) (c.free_pin-fourth.ensures t f vs free l e),
     )
 
-pub free_pin-first-requires : goal.free_pin-first-requires
-free_pin-first-requires c = let pre = c.requires in (pre.0, pre.1, is-gate _ _ _ pre.2 pre.3, omega arith, pre.5, pre.6)
-
-pub free_pin-second-requires : goal.free_pin-second-requires
-free_pin-second-requires c = let pre = c.requires in (pre.0, pre.1, is-gate _ _ _ pre.2 pre.3, omega arith, pre.5, pre.6)
-
-pub free_pin-third-requires : goal.free_pin-third-requires
-free_pin-third-requires c = let pre = c.requires in (pre.0, pre.1, is-gate _ _ _ pre.2 pre.3, omega arith, pre.5, pre.6)
-
-pub free_pin-fourth-requires : goal.free_pin-fourth-requires
-free_pin-fourth-requires c = let pre = c.requires in (pre.0, pre.1, is-gate _ _ _ pre.2 pre.3, omega arith, pre.5, pre.6)
-
-pub overflow_add-k : goal.overflow_add-k
-overflow_add-k c = omega (arith, c.requires.4)
-
 pub returns-in-0-to-5 : goal.returns-in-0-to-5
 unfolding invert_if pins_seen
 returns-in-0-to-5 c = λ t f vs free l e.

@@ -1,14 +1,13 @@
 use mathlib.Core.Path.{◌≡◌}
 use mathlib.Core.List.{[], ◌∷◌}
-use Prim.Native.Nat.{ℕ, ◌+◌, ◌*◌, ◌<◌, ◌≤◌, ◌/◌}
+use Prim.Native.Nat.{ℕ, ◌<◌, ◌≤◌, ◌/◌}
 use native.Mathlib.Omega.{arith}
 use lib.ListN.{length}
 use Rattle.model.specs.Inputs.{pin_count, pin_line}
 use Rattle.model.specs.Values.{even_gate}
-use Rattle.lanes.specs.Lane.{Shows, Room}
+use Rattle.lanes.specs.Lane.{Shows}
 use Rattle.lanes.proofs.Laws.{shows-single}
 use Rattle.circuit.proofs.Laws.{is-gate, lower-pin}
-use Rattle.unit.specs.Unit.{MaskRoom}
 use Rattle.unit.proofs.Laws.{pins_1, pins_2, pins_3, pins_4, shows-gate}
 use Rattle.unit.proofs.gate_lanes.Goals.{After-pins_of-pins}
 use Rattle.unit.proofs.gate_lanes.Goals as goal
@@ -21,18 +20,6 @@ has-pin s = s.requires.0.pinned _ s.requires.1 (is-gate _ _ _ s.requires.2 s.req
 low : (s : After-pins_of-pins) (p : ℕ) → 1 ≤ p → p ≤ pin_count s.args.c.now s.args.n → pin_line s.args.c.now s.args.n p < s.args.n
 low s p a b = lower-pin _ s.requires.0 _ p s.requires.1 (is-gate _ _ _ s.requires.2 s.requires.3) a b
 
--- what reading that pin asks for
-asked : (s : After-pins_of-pins) (p : ℕ) → 1 ≤ p → p ≤ pin_count s.args.c.now s.args.n
-    → (12 * s.args.n + 12 ≤ length s.args.c.now) × (1 ≤ p) × (p ≤ 4) × MaskRoom s.args.masks.now × (s.args.row < 256) × Room (pin_line s.args.c.now s.args.n p + 1) s.args.words.now
-asked s p a b = (
-  omega (arith, s.requires.0.size, s.requires.1),
-  a,
-  omega (arith, b, s.requires.0.few _ s.requires.1),
-  s.requires.4,
-  s.requires.5,
-  omega (arith, s.requires.6, low s p a b),
-)
-
 kinds : (s : After-pins_of-pins) → (2 ≤ s.args.k) × (s.args.k ≤ 9)
 kinds s = (s.requires.3, omega (arith, s.requires.0.kinds _ s.requires.1, s.requires.2))
 
@@ -40,20 +27,11 @@ kinds s = (s.requires.3, omega (arith, s.requires.0.kinds _ s.requires.1, s.requ
 single : (s : After-pins_of-pins) (t z o v : ℕ) → Shows t z o v → Shows t z o (even_gate (s.args.k / 2) (v ∷ []))
 single s t z o v h = shows-single t z o v h (s.args.k / 2) (omega (arith, (kinds s).0)) (omega (arith, (kinds s).1))
 
-pub pin_lanes-first-requires : goal.pin_lanes-first-requires
-pin_lanes-first-requires c = asked c 1 (omega arith) (has-pin c)
-
 pub returns-then-pins-lt2 : goal.returns-then-pins-lt2
 returns-then-pins-lt2 c = λ t f vs s l e.
     let one : pin_count c.args.c.now c.args.n ≡ 1 = omega (arith, has-pin (goal.at.returns-then-pins-lt2 c).After-pins_of-pins, c.if-pins-lt2.true, c.pins_of-pins.ensures.0) in
     let first = c.pin_lanes-first.ensures t f vs s l (omega (arith, e, low (goal.at.returns-then-pins-lt2 c).After-pins_of-pins 1 (omega arith) (omega arith))) in
     shows-gate t _ _ _ _ _ (pins_1 _ f vs _ one) (c.finish.ensures t _ (single (goal.at.returns-then-pins-lt2 c).After-pins_of-pins t _ _ _ first))
-
-pub pin_lanes-second-requires : goal.pin_lanes-second-requires
-pin_lanes-second-requires c = asked (goal.at.pin_lanes-second-requires c).After-pins_of-pins 2 (omega arith) (omega (arith, c.if-pins-lt2.false, c.pins_of-pins.ensures.0))
-
-pub combine-requires : goal.combine-requires
-combine-requires c = kinds (goal.at.combine-requires c).After-pins_of-pins
 
 pub returns-then-pins-lt3 : goal.returns-then-pins-lt3
 returns-then-pins-lt3 c = λ t f vs s l e.
@@ -62,15 +40,6 @@ returns-then-pins-lt3 c = λ t f vs s l e.
     let seen1 = c.pin_lanes-first.ensures t f vs s l (below 1 (omega arith) (omega arith)) in
     let seen2 = c.pin_lanes-second.ensures t f vs s l (below 2 (omega arith) (omega arith)) in
     shows-gate t _ _ _ _ _ (pins_2 _ f vs _ two) (c.finish-then-pins-lt3.ensures t _ (c.combine.ensures t _ _ seen1 (single (goal.at.returns-then-pins-lt3 c).After-pins_of-pins t _ _ _ seen2)))
-
-pub pin_lanes-third-requires : goal.pin_lanes-third-requires
-pin_lanes-third-requires c = asked (goal.at.pin_lanes-third-requires c).After-pins_of-pins 3 (omega arith) (omega (arith, c.if-pins-lt3.false, c.pins_of-pins.ensures.0))
-
-pub combine-requires-then-pins-lt4 : goal.combine-requires-then-pins-lt4
-combine-requires-then-pins-lt4 c = kinds (goal.at.combine-requires-then-pins-lt4 c).After-pins_of-pins
-
-pub combine-requires-then-pins-lt4-2 : goal.combine-requires-then-pins-lt4-2
-combine-requires-then-pins-lt4-2 c = kinds (goal.at.combine-requires-then-pins-lt4-2 c).After-pins_of-pins
 
 pub returns-then-pins-lt4 : goal.returns-then-pins-lt4
 returns-then-pins-lt4 c = λ t f vs s l e.
@@ -81,18 +50,6 @@ returns-then-pins-lt4 c = λ t f vs s l e.
     let seen3 = c.pin_lanes-third.ensures t f vs s l (below 3 (omega arith) (omega arith)) in
     shows-gate t _ _ _ _ _ (pins_3 _ f vs _ three)
     (c.finish-then-pins-lt4.ensures t _ (c.combine-then-pins-lt4-2.ensures t _ _ seen1 (c.combine-then-pins-lt4.ensures t _ _ seen2 (single (goal.at.returns-then-pins-lt4 c).After-pins_of-pins t _ _ _ seen3))))
-
-pub pin_lanes-fourth-requires : goal.pin_lanes-fourth-requires
-pin_lanes-fourth-requires c = asked (goal.at.pin_lanes-fourth-requires c).After-pins_of-pins 4 (omega arith) (omega (arith, c.if-pins-lt4.false, c.pins_of-pins.ensures.0))
-
-pub combine-requires-2 : goal.combine-requires-2
-combine-requires-2 c = kinds (goal.at.combine-requires-2 c).After-pins_of-pins
-
-pub combine-requires-3 : goal.combine-requires-3
-combine-requires-3 c = kinds (goal.at.combine-requires-3 c).After-pins_of-pins
-
-pub combine-requires-4 : goal.combine-requires-4
-combine-requires-4 c = kinds (goal.at.combine-requires-4 c).After-pins_of-pins
 
 pub returns : goal.returns
 returns c = λ t f vs s l e.

@@ -44,26 +44,6 @@ all c t f vs free l e =
 parity : (s : After-xor-all) → s.args.k / 2 ≡ 4
 parity s = omega (arith, s.requires.0.kinds _ s.requires.1, s.requires.2, s.requires.3)
 
-pub free_pin-first-requires : goal.free_pin-first-requires
-free_pin-first-requires c =
-    let pre = c.requires in
-    (pre.0, pre.1, is-gate _ _ _ pre.2 (omega (arith, pre.3)), omega arith, pre.4, pre.5)
-
-pub free_pin-second-requires : goal.free_pin-second-requires
-free_pin-second-requires c =
-    let pre = c.requires in
-    (pre.0, pre.1, is-gate _ _ _ pre.2 (omega (arith, pre.3)), omega arith, pre.4, pre.5)
-
-pub free_pin-third-requires : goal.free_pin-third-requires
-free_pin-third-requires c =
-    let pre = c.requires in
-    (pre.0, pre.1, is-gate _ _ _ pre.2 (omega (arith, pre.3)), omega arith, pre.4, pre.5)
-
-pub free_pin-fourth-requires : goal.free_pin-fourth-requires
-free_pin-fourth-requires c =
-    let pre = c.requires in
-    (pre.0, pre.1, is-gate _ _ _ pre.2 (omega (arith, pre.3)), omega arith, pre.4, pre.5)
-
 pub returns-then-pins_of-eq1 : goal.returns-then-pins_of-eq1
 unfolding pins_seen
 returns-then-pins_of-eq1 c = λ t f vs free l e.

@@ -1,12 +1,11 @@
 use Rattle.std.proofs.Common.{◌≡◌, List, ℕ, ◌*◌, ◌<◌, ◌≤◌, arith}
-use native.Mathlib.Nat.{mul-le-mul_right}
 use Rattle.model.specs.Inputs.{F, L}
 use Rattle.job.specs.declared.Job.{Job}
 use Rattle.run.specs.Run.{Runnable}
 use Rattle.run.proofs.Laws.{runnable-again}
 use Rattle.expand.proofs.Begin.{product_as, factor-some}
 use Rattle.expand.proofs.Tries.{pairs_as}
-use Rattle.weigh.proofs.Laws.{unit-rows, entries_none, entries-join, weighing_again, word_as}
+use Rattle.weigh.proofs.Laws.{unit-rows, entries-join, weighing_again, word_as}
 use Rattle.weigh.proofs.weigh.Goals as goal
 
 -- a position before `to` is a pair's, so there is a flip-flop
@@ -14,56 +13,16 @@ width : {c t : List ℕ} {job : Job} {pins flops outs hits masks feed words stat
     → at < to → to ≤ L c t * F c → 0 < job.flops
 width {job = job} run at to below last = factor-some job.flops job.units at (omega (arith, below, last, product_as _ _ _ _ run.sizes.flops run.sizes.units))
 
-pub weigh_start-at-requires : goal.weigh_start-at-requires
-weigh_start-at-requires c =
-    let run = c.requires.0 in (
-      omega (arith, run.sizes.flops, run.circuit.flip_flops),
-      omega (arith, run.sizes.flops, mul-le-mul_right (F c.args.c.now) run.test.some, c.requires.7.room),
-      omega (arith, c.requires.3),
-      omega (arith, run.sizes.flops, c.requires.8),
-      c.requires.4,
-    )
-
-pub loop-at-init : goal.loop-at-init
-loop-at-init c = record {
-  begin = omega arith;
-  within = c.weigh_start-at.ensures.least c.requires.1;
-  entries = λ f pairs stop left ready w last. entries_none _ _ f pairs _ _ _ _ _ w.taken;
-}
-
-pub fill-batch-requires : goal.fill-batch-requires
-fill-batch-requires c =
-    let begin = c.loop-at.invariant.begin in (
-      width c.requires.0 _ _ c.loop-at-test.true c.requires.2,
-      omega (arith, begin, c.weigh_start-at.ensures.unit (omega (arith, begin, c.loop-at-test.true))),
-      c.loop-at-test.true,
-      omega (arith, c.requires.2, c.requires.7.room),
-      omega arith,
-      omega arith,
-    )
-
 pub try_pairs-marks-requires : goal.try_pairs-marks-requires
 try_pairs-marks-requires c =
     let run = c.requires.0 in
     let begin = c.loop-at.invariant.begin in
     let fill = c.fill-batch.ensures in (
       runnable-again _ _ _ run c.loop-at.auto.feed c.loop-at.auto.words c.loop-at.auto.state,
-      pairs_as c.args.c.now c.args.t.now _ _ _ _ _ _ _ run.sizes.flops (width run _ _ c.loop-at-test.true c.requires.2)
-          (omega (arith, begin, c.weigh_start-at.ensures.unit (omega (arith, begin, c.loop-at-test.true)))) (omega (arith, fill.2, c.requires.2)) fill.0 (omega arith) (omega arith),
+      pairs_as c.args.setup.now.circuit.now c.args.setup.now.test.now _ _ _ _ _ _ run.sizes.flops (width run _ _ c.loop-at-test.true c.requires.2)
+          (omega (arith, begin, c.weigh_start-at.ensures.unit (omega (arith, begin, c.loop-at-test.true)))) (omega (arith, fill.2, c.requires.2)) fill.0 (omega arith),
       c.requires.5,
       c.requires.6.room,
-    )
-
-pub next_state-requires : goal.next_state-requires
-next_state-requires c =
-    let run = c.requires.0 in (
-      run.circuit,
-      run.tables.flop_table,
-      run.sizes.flops,
-      run.hit_room,
-      run.mask_room,
-      omega (arith, run.line_room),
-      omega (arith, run.sizes.flops, run.state_room),
     )
 
 pub weigh_word-requires : goal.weigh_word-requires
@@ -71,7 +30,7 @@ weigh_word-requires c =
     let run = c.requires.0 in
     let fill = c.fill-batch.ensures in
     let some = width run _ _ c.loop-at-test.true c.requires.2 in
-    let last : c.fill-batch.result.next ≤ L c.args.c.now c.args.t.now * F c.args.c.now = omega (arith, fill.2, c.requires.2) in (
+    let last : c.fill-batch.result.next ≤ L c.args.setup.now.circuit.now c.args.setup.now.test.now * F c.args.setup.now.circuit.now = omega (arith, fill.2, c.requires.2) in (
       some,
       omega (arith, fill.1),
       unit-rows _ _ run.sizes.flops some last c.requires.6,
@@ -88,14 +47,14 @@ loop-at-preserved c =
     let run = c.requires.0 in
     let inv = c.loop-at.invariant in
     let fill = c.fill-batch.ensures in
-    let begun : c.args.job.flops ≤ c.loop-at.at = omega (arith, inv.begin, c.weigh_start-at.ensures.unit (omega (arith, inv.begin, c.loop-at-test.true))) in record {
+    let begun : c.args.setup.now.job.flops ≤ c.loop-at.at = omega (arith, inv.begin, c.weigh_start-at.ensures.unit (omega (arith, inv.begin, c.loop-at-test.true))) in record {
       begin = omega (arith, inv.begin, fill.1);
       within = fill.2;
       entries = λ f pairs stop left ready w last.
           let old = inv.entries f pairs stop left ready w last in
           entries-join _ _ f pairs _ _ old
           (c.weigh_word.ensures.entries _ _ f pairs stop (weighing_again w run.sizes.flops old.taken)
-          (word_as _ _ f _ _ _ _ _ _ _ _ _ _ _ _ _ _ run.sizes.flops (width run _ _ c.loop-at-test.true c.requires.2) begun (omega (arith, fill.2, c.requires.2)) fill.0 ready.stuck ready.plain ready.frees
+          (word_as _ _ f _ _ _ _ _ _ _ _ _ _ _ _ _ run.sizes.flops (width run _ _ c.loop-at-test.true c.requires.2) begun (omega (arith, fill.2, c.requires.2)) fill.0 (omega arith) ready.stuck ready.plain ready.frees
           c.try_pairs-marks.ensures c.next_state.ensures)
           (omega (arith, begun, run.sizes.flops)) (omega (arith, fill.2, last)))
           inv.begin (omega (arith, fill.1)) c.loop-at.auto.table

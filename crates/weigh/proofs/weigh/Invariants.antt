@@ -9,9 +9,9 @@ abbrev pub invariant-loop-at : goal.invariant-loop-at
 invariant-loop-at l = record {
   begin : l.initial.at ≤ l.at;
   within : l.at ≤ l.to;
-  entries : (f : Fault) (pairs : List (ℕ × ℕ)) (stop left : ℕ) → Prepared l.c l.t l.free l.states l.list l.hits l.masks left f
-      → Weighing l.c l.t f pairs (F l.c) stop l.states l.list l.m l.times l.initial.extras → l.to ≤ stop
-      → Entries l.c l.t f pairs l.m l.times l.initial.at l.at l.initial.table l.extras l.table;
+  entries : (f : Fault) (pairs : List (ℕ × ℕ)) (stop left : ℕ) → Prepared l.setup.circuit.now l.setup.test.now l.free l.states l.list l.given.hits.now l.given.masks.now left f
+      → Weighing l.setup.circuit.now l.setup.test.now f pairs (F l.setup.circuit.now) stop l.states l.list l.m l.times l.initial.extras → l.to ≤ stop
+      → Entries l.setup.circuit.now l.setup.test.now f pairs l.m l.times l.initial.at l.at l.initial.table l.extras l.table;
 }
 
 abbrev pub decreases-loop-at : goal.decreases-loop-at

@@ -1,56 +1,48 @@
-use Rattle.std.proofs.Common.{◌≡◌, arith, sym}
+use Rattle.std.proofs.Common.{◌≡◌, ◌≤◌, cond, arith, rules, sym}
 use Rattle.expand.specs.Expand.{is_x}
 use Rattle.expand.proofs.Word.{pair-none, pair_turn, pair-lower, pair-upto}
-use Rattle.weigh.proofs.Laws.{row_inside, entries_none, entries-turn, weighing_again}
+use Rattle.weigh.proofs.Laws.{entries_none, entries-turn, weighing_again}
 use Rattle.weigh.proofs.weigh_word.Goals as goal
 
 pub loop-e-init : goal.loop-e-init
-loop-e-init c = record {
-  begun = omega arith;
-  within = omega (arith, c.requires.1);
-  number = sym (pair-none _ _);
-  entries = λ cs ts f pairs stop w word first last. entries_none cs ts f pairs _ _ _ _ _ w.taken;
-}
+loop-e-init c = record { number = sym (pair-none _ _); entries = λ cs ts f pairs stop w word first last. entries_none cs ts f pairs _ _ _ _ _ w.taken }
 
 pub weigh_at-requires : goal.weigh_at-requires
 weigh_at-requires c =
-    let inv = c.loop-e.invariant in
+    let loop = c.loop-e in
     let below = c.loop-e-test.true in (
       c.requires.0,
-      c.requires.2.room c.loop-e.e below,
-      c.requires.3.room c.loop-e.e below,
+      c.requires.2.room loop.e below,
+      c.requires.3.room loop.e below,
       c.requires.4,
-      (λ x. omega (arith, inv.number, pair-lower c.args.list.now c.args.at c.loop-e.e c.args.next inv.begun below x, c.requires.5)),
+      (λ x. omega (arith, loop.invariant.number, pair-lower c.args.list.now c.args.at loop.e c.args.next (omega arith) below x, c.requires.5)),
       c.requires.6,
-      omega (arith, c.requires.7),
-      omega (arith, below, c.requires.8),
+      omega arith,
+      omega arith,
     )
-
-pub bounds-list-e : goal.bounds-list-e
-bounds-list-e c = row_inside c.args.count c.loop-e.e _ c.requires.0 (c.requires.3.room _ c.loop-e-test.true)
 
 pub overflow_add-p : goal.overflow_add-p
 overflow_add-p c =
-    let inv = c.loop-e.invariant in
-    omega (arith, inv.number, c.one_if-p.ensures.1, pair-upto c.args.list.now c.args.at c.loop-e.e c.args.next inv.begun inv.within, c.requires.5)
+    let few : c.from-p.result ≤ 1 = search rules in
+    omega (arith, c.loop-e.invariant.number, pair-upto c.args.list.now c.args.at c.loop-e.e c.args.next (omega arith) (omega arith), c.requires.5)
 
 pub loop-e-preserved : goal.loop-e-preserved
 unfolding is_x
 loop-e-preserved c =
-    let inv = c.loop-e.invariant in
-    let below = c.loop-e-test.true in record {
-      begun = omega (arith, inv.begun);
-      within = omega (arith, below);
-      number = rw (c.one_if-p.ensures.0, inv.number) (sym (pair_turn c.args.list.now c.args.at c.loop-e.e inv.begun));
+    let loop = c.loop-e in
+    let begun : c.args.at ≤ loop.e = omega arith in
+    let below = c.loop-e-test.true in
+    let here : c.from-p.result ≡ cond (is_x c.args.list.now loop.e) 1 0 = search rules in record {
+      number = rw (here, loop.invariant.number) (sym (pair_turn c.args.list.now c.args.at loop.e begun));
       entries = λ cs ts f pairs stop w word first last.
-          let old = inv.entries cs ts f pairs stop w word first last in
-          entries-turn cs ts f pairs _ _ c.args.at c.loop-e.e c.args.table.now c.loop-e.table _ _ _ inv.begun (omega (arith, below, c.requires.8)) c.loop-e.auto.table old
-          (c.weigh_at.ensures.entry cs ts f pairs stop c.args.at c.args.next (weighing_again w w.width old.taken) word first inv.begun below last inv.number);
+          let old = loop.invariant.entries cs ts f pairs stop w word first last in
+          entries-turn cs ts f pairs _ _ c.args.at loop.e c.args.table.now loop.table _ _ _ begun (omega arith) loop.auto.table old
+          (c.weigh_at.ensures.entry cs ts f pairs stop c.args.at c.args.next (weighing_again w w.width old.taken) word first begun below last loop.invariant.number);
     }
 
 pub returns : goal.returns
 returns c = record {
   entries = λ cs ts f pairs stop w word first last.
-      let end : c.loop-e.e ≡ c.args.next = omega (arith, c.loop-e.invariant.within, c.loop-e-test.false) in
+      let end : c.loop-e.e ≡ c.args.next = omega arith in
       rw (← end) (c.loop-e.invariant.entries cs ts f pairs stop w word first last);
 }

@@ -8,6 +8,6 @@ pub returns-then-kind-eq1 : goal.returns-then-kind-eq1
 unfolding invert_if
 returns-then-kind-eq1 c = λ t v h. rw (eq-eqb (c.args.kind % 2) 1 (omega arith)) (c.invert.ensures t v h)
 
-pub returns : goal.returns
+pub returns-else-kind-eq1 : goal.returns-else-kind-eq1
 unfolding invert_if
-returns c = λ t v h. rw (ne_eqb (c.args.kind % 2) 1 (λ odd. omega arith)) h
+returns-else-kind-eq1 c = λ t v h. rw (ne_eqb (c.args.kind % 2) 1 (λ odd. omega arith)) h

@@ -1,0 +1,2 @@
+-- Which call a number is of.
+pub mod Numbers

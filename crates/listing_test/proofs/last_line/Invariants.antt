@@ -1,9 +1,0 @@
--- The place stays within the bytes.
-use Rattle.std.proofs.Common.{◌≤◌, length}
-use Rattle.listing_test.proofs.last_line.Given as goal
-
-abbrev pub invariant-loop-i : goal.invariant-loop-i
-invariant-loop-i l = l.i ≤ length l.bytes
-
-abbrev pub decreases-loop-i : goal.decreases-loop-i
-decreases-loop-i l = l.i
