@@ -61,7 +61,7 @@ fn print_done(rt: &impl Print, text: &[u8], count: usize, res: &[u8; AREA]) {
 }
 
 fn print_refused(rt: &impl Print, text: &[u8], refusal: Refusal, res: &[u8; AREA]) {
-    printing::refused(rt, refusal);
+    printing::refused(rt, refusal.rule.number(), refusal.at);
     print_name(rt, text, 0);
     printing::kept_or_changed(rt, printing::kept(res, BLANK));
 }

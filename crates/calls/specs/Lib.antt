@@ -1,2 +1,3 @@
--- Which call a number is of.
+-- Which call a number is of, and what each answers and writes.
 pub mod Numbers
+pub mod Made

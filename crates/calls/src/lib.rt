@@ -1,7 +1,10 @@
 // The four calls of document 01 by number, for programs that are told which to make.
 #![tactic(auto)]
 
+ghost use Rattle.std.specs.Prelude.{◌≡◌, length};
+ghost use Rattle.job.specs.Job.{answer_of};
 ghost use Rattle.calls.specs.Numbers.{Numbered};
+ghost use Rattle.calls.specs.Made.{made_answer, made_area};
 
 use job::Outcome;
 
@@ -45,8 +48,21 @@ pub struct Lent<'a> {
     pub k: usize,
 }
 
+// Makes the call of this number; for a number that no call has, Group.
+pub fn call(number: u8, lent: Lent, work: &mut [u8], res: &mut [u8]) -> Outcome {
+    make(
+        Kind::try_from(number).unwrap_or(Kind::Group),
+        lent,
+        work,
+        res,
+    )
+}
+
 // Makes the call.
-pub fn call(kind: Kind, lent: Lent, work: &mut [u8], res: &mut [u8]) -> Outcome {
+pub fn make(kind: Kind, lent: Lent, work: &mut [u8], res: &mut [u8]) -> Outcome
+    ensures answers { answer_of result ≡ made_answer kind lent.entry.circuit.now lent.entry.test.now lent.entry.faults.now lent.entry.plan.now lent.entry.verdicts.now lent.entry.k (length work.old) (length res.old) }
+    ensures writes { res.new ≡ made_area kind lent.entry.circuit.now lent.entry.test.now lent.entry.faults.now lent.entry.plan.now lent.entry.verdicts.now lent.entry.k (length work.old) res.old }
+{
     let Lent {
         circuit,
         test,
@@ -61,14 +77,4 @@ pub fn call(kind: Kind, lent: Lent, work: &mut [u8], res: &mut [u8]) -> Outcome 
         Kind::Choose => choose::choose(circuit, test, faults, k, work, res),
         Kind::Group => group::group(verdicts, res),
     }
-}
-
-// Makes the call of this number; for a number that no call has, Group.
-pub fn call_numbered(number: u8, lent: Lent, work: &mut [u8], res: &mut [u8]) -> Outcome {
-    call(
-        Kind::try_from(number).unwrap_or(Kind::Group),
-        lent,
-        work,
-        res,
-    )
 }

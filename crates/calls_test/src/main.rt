@@ -39,7 +39,7 @@ fn run(rt: &impl Print, number: u8, lent: Lent, room: usize, size: usize)
 {
     let mut work = [BLANK; AREA];
     let mut result = [BLANK; AREA];
-    let outcome = calls::call_numbered(number, lent, &mut work[..room], &mut result[..size]);
+    let outcome = calls::call(number, lent, &mut work[..room], &mut result[..size]);
     print_answered(rt, outcome, size, &work, &result);
 }
 

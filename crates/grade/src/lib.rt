@@ -36,7 +36,16 @@ fn grade_list(
         × (RowRoom setup.now.circuit.now setup.now.test.now states.old) × (RowRoom setup.now.circuit.now setup.now.test.now list.old) × (ValidInputs setup.now.circuit.now setup.now.test.now 0 32768 fs.now) × (16 * fault_count fs.now ≤ length res.old) }
     ensures { res.new ≡ overwritten (grade_bytes setup.now.circuit.now setup.now.test.now fs.now plan.now k) res.old }
 {
-    sieve::sieve(setup, fs, work, given, space, res);
+    sieve::sieve(
+        setup,
+        fs,
+        work,
+        given,
+        &mut space.feed,
+        &mut space.words,
+        &mut space.state,
+        res,
+    );
     let count = fs.len() / 4;
     let mut from: usize = 0;
     // A pack takes as many open faults as it has lanes, and answers where the next begins: no range counts them.

@@ -56,7 +56,7 @@ fn print_done(rt: &impl Print, n: usize, size: usize, res: &[u8; RESULT])
 
 // Takes the arrays whole, so that nothing is to be shown of their lengths after a part was lent.
 fn print_refused(rt: &impl Print, refusal: Refusal, work: &[u8; WORK], res: &[u8; RESULT]) {
-    printing::refused_job(rt, refusal, work, res);
+    printing::refused_job(rt, refusal.rule.number(), refusal.at, work, res);
 }
 
 fn run(

@@ -35,7 +35,7 @@ fn list<const ROOM: usize>(
         &mut groups,
         &mut out,
     );
-    printing::deliver(rt, &out[..size], "grader: cannot write the list");
+    printing::deliver(rt, &out[..size], b"grader: cannot write the list\n");
 }
 
 // The same, with room for 56 faults, for 909, or for as many as have records: all pages of an array are touched when its function is called,

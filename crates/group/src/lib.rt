@@ -24,16 +24,19 @@ fn key_of(verdicts: &[u8], j: usize) -> usize
 }
 
 // The first place whose key is the one at place `count`, and that place itself where no place before it has the key: what is
-// written in both cases. Keys stand in an array of their own, since the search reads nothing else.
+// written in both cases. Keys stand in an array of their own, since the search reads nothing else. The search ends at place `count` at the
+// latest, so each place costs one comparison: `position` makes two, and Group of many keys takes up to 1.6 times as long by it
+// (docs/DESIGN-PASS.md, Speed).
 fn find(keys: &[usize], count: usize) -> usize
     requires { count < length keys.now }
     ensures { Sought keys.now count result }
 {
     let key = keys[count];
-    keys[..count]
-        .iter()
-        .position(|k| *k == key)
-        .unwrap_or(count)
+    let mut x: usize = 0;
+    while keys[x] != key {
+        x += 1;
+    }
+    x
 }
 
 // The groups of accepted records, with room lent for as many groups as there are records. A record's key and position stand behind those of

@@ -48,7 +48,9 @@ fn run(rt: &impl Print, title: &[u8], records: &[u8], size: usize)
     printing::text(rt, b": ");
     match group::group(records, &mut result[..size]) {
         Ok(n) => print_done(rt, n, &result),
-        Err(refusal) => printing::refused_job(rt, refusal, b"", &result),
+        Err(refusal) => {
+            printing::refused_job(rt, refusal.rule.number(), refusal.at, b"", &result);
+        }
     }
 }
 

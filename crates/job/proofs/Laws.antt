@@ -8,8 +8,9 @@ use native.Mathlib.Omega.{arith}
 use Rattle.std.specs.Prelude.{Result, Ok, Err}
 use Rattle.model.specs.Inputs.{O, L}
 use Rattle.model.specs.Accepted.{ValidInputs}
-use Rattle.model.specs.Refusals.{Answer, answer}
+use Rattle.model.specs.Refusals.{Answer, answer, input_rows}
 use Rattle.model.specs.Refusals as model
+use Rattle.model.proofs.Accepted.{valid_inputs}
 use Rattle.rules.specs.Check.{number_of, refusal_of}
 use Rattle.rules.specs.declared.Refusal.{Refusal}
 use Rattle.rules.proofs.Laws.{HandsOn, not_ok}
@@ -54,6 +55,10 @@ limited valid of = record {
   outputs = rw of.outputs valid.circuit.outputs;
   units = rw of.units valid.test.most;
 }
+
+-- the same, where the rows of the inputs are passed
+pub ready_limits : {c t : List ℕ} (fs : List ℕ) (least most : ℕ) {r : Result Job Refusal} {j : Job} → JobChecked c t (input_rows c t least most fs) r → r ≡ Ok j → Limited j
+ready_limits fs least most checked e = limited (valid_inputs _ _ _ _ _ (ready-none checked e)) (checked.job _ e)
 
 -- the bytes that row 13 asks for, but for those of the lines
 pub area-limit : {j : Job} → Limited j → j.units * (4 * j.outputs + 16 * j.flops + 8) ≤ 1024 * 5128

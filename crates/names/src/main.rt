@@ -40,7 +40,7 @@ fn write(rt: &HostRuntime, text: &[u8], names: &[usize; NAMES], count: usize)
 {
     let mut out = [0u8; PRINT];
     let size = put_names(&mut out, text, names, count);
-    printing::deliver(rt, &out[..size], "names: cannot write the names");
+    printing::deliver(rt, &out[..size], b"names: cannot write the names\n");
 }
 
 // The names of the text's lines, or why there are none.
@@ -50,7 +50,9 @@ fn list(rt: &HostRuntime, text: &[u8]) {
     let mut records = [0u8; RECORDS];
     match read_bench::inspect(text, &mut names, &mut heads, &mut records) {
         Ok(count) => write(rt, text, &names, count),
-        Err(refusal) => bench_file::tell_refused(rt, "names", refusal),
+        Err(refusal) => {
+            bench_file::tell_refused(rt, b"names", refusal.rule.number(), refusal.at);
+        }
     }
 }
 
@@ -58,8 +60,8 @@ fn main(rt: HostRuntime) {
     let mut area: [u8; LONGEST] = printing::zeros();
     let read = bench_file::read_text(
         &rt,
-        "names",
-        "the number and the name of each line of a circuit",
+        b"names",
+        b"the number and the name of each line of a circuit",
         &mut area,
     );
     if let Some(size) = read {

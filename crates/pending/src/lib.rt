@@ -22,8 +22,9 @@ fn compare_rows(free: &[u8], faulty: &[u8]) -> Comparison
 {
     let mut places: usize = 0;
     let mut open_places: u16 = 0;
-    for n in 0..free.len() {
-        let is_open = (free[n] <= 1) & (faulty[n] == 2);
+    // The count is the loop's index: a place that is compared is counted, and no other.
+    while places < free.len() {
+        let is_open = (free[places] <= 1) & (faulty[places] == 2);
         open_places += u16::from(is_open);
         places += 1;
     }

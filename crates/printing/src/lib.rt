@@ -30,11 +30,16 @@ pub fn text(out: &impl Print, bytes: &[u8]) {
     let _ = out.write_all(bytes);
 }
 
-// Bytes that are all a program has to write; where they cannot be written, a line on standard error says so.
-pub fn deliver(rt: &HostRuntime, bytes: &[u8], failure: &str) {
+// Bytes that are all a program has to write; where they cannot be written, standard error says so.
+pub fn deliver(rt: &HostRuntime, bytes: &[u8], failure: &[u8]) {
     if rt.write_all(bytes).is_err() {
-        let _ = rt.eprintln(failure);
+        tell(rt, failure);
     }
+}
+
+// Bytes as they are, on standard error.
+pub fn tell(rt: &HostRuntime, bytes: &[u8]) {
+    text(&rt.stderr(), bytes);
 }
 
 // A number, in decimal.
@@ -74,15 +79,15 @@ pub fn done(out: &impl Print, n: usize) {
 }
 
 // The number and the position by which a call refused.
-pub fn refused(out: &impl Print, refusal: Refusal) {
-    let _ = print!(out; "refused {} {}", refusal.rule.number(), refusal.at);
+pub fn refused(out: &impl Print, rule: u8, at: usize) {
+    let _ = print!(out; "refused {rule} {at}");
 }
 
 // What a call answered.
 pub fn outcome(out: &impl Print, outcome: Result<usize, Refusal>) {
     match outcome {
         Ok(n) => done(out, n),
-        Err(refusal) => refused(out, refusal),
+        Err(Refusal { rule, at }) => refused(out, rule.number(), at),
     }
 }
 
@@ -109,30 +114,72 @@ pub fn values(out: &impl Print, list: &[u8]) {
     let _ = out.print(Joined(list));
 }
 
-// Bytes in hexadecimal, so many a line.
-#[derive(Drop)]
-struct HexLines<'a> {
-    bytes: &'a [u8],
-    width: usize,
+// Digits that are written at once.
+type Digits = [u8; 4096];
+
+// The digit of a number below 16.
+fn digit(n: u8) -> u8
+    requires { n < 16 }
+{
+    if n < 10 { b'0' + n } else { b'a' - 10 + n }
 }
 
-impl fmt::Display for HexLines<'_> {
-    fn fmt<W: fmt::Write>(&self, f: &mut fmt::Formatter<W>) -> fmt::Result {
-        for (i, byte) in self.bytes.iter().enumerate() {
-            if 0 < i && i.is_multiple_of(self.width) {
-                f.write_str("\n")?;
-            }
-            write!(f, "{byte:02x}")?;
-        }
-        Ok(())
+// A byte's two digits, put here; where the next stand.
+fn put_byte(digits: &mut Digits, at: usize, byte: u8) -> usize
+    requires { at + 2 ≤ 4096 }
+    ensures { result ≡ at + 2 }
+{
+    digits[at] = digit(byte / 16);
+    digits[at + 1] = digit(byte % 16);
+    at + 2
+}
+
+// The end of a line, where there is one.
+fn put_end(digits: &mut Digits, at: usize, ends: bool) -> usize
+    requires { at < 4096 }
+    ensures { result ≤ at + 1 }
+{
+    if ends {
+        digits[at] = b'\n';
+        return at + 1;
     }
+    at
 }
 
-// The same, printed, with the end of a line between two of them.
+fn write_digits(out: &impl Print, digits: &Digits, size: usize)
+    requires { size ≤ 4096 }
+{
+    text(out, &digits[..size]);
+}
+
+// Writes the digits where there is no room for more; where the next stand.
+fn emptied(out: &impl Print, digits: &Digits, at: usize) -> usize
+    requires { at ≤ 4096 }
+    ensures { result ≤ 4093 }
+{
+    if 4093 < at {
+        write_digits(out, digits, at);
+        return 0;
+    }
+    at
+}
+
+// Bytes in hexadecimal, so many a line, with the end of a line between two of them. The digits are put into an array that is written whole: by
+// `Display`, a byte at a time, a long area takes up to seven times as long (docs/DESIGN-PASS.md, Speed).
 pub fn hex(out: &impl Print, bytes: &[u8], width: usize)
     requires { 0 < width }
 {
-    let _ = out.print(HexLines { bytes, width });
+    let mut digits = [0u8; 4096];
+    let mut at: usize = 0;
+    for (i, line) in bytes.chunks(width).enumerate() {
+        at = emptied(out, &digits, at);
+        at = put_end(&mut digits, at, 0 < i);
+        for byte in line {
+            at = emptied(out, &digits, at);
+            at = put_byte(&mut digits, at, *byte);
+        }
+    }
+    write_digits(out, &digits, at);
 }
 
 // A number of an area that is too long to print: any one byte that is changed, and nearly any two that change places, give another.
@@ -177,8 +224,10 @@ fn reason(words: &str) -> &str {
 pub fn tell_error(rt: &HostRuntime, what: &[u8], error: &io::Error) {
     let words = InlineText::<256>::of(*error);
     let reason = reason(words.as_str());
-    text(&rt.stderr(), what);
-    let _ = eprintln!(rt; ": {reason}");
+    tell(rt, what);
+    tell(rt, b": ");
+    tell(rt, reason.as_bytes());
+    tell(rt, b"\n");
 }
 
 // Puts what the file gives at the start of the area, until the area is full, the file ends or a read fails; how many bytes.
@@ -261,8 +310,8 @@ fn input_of(
         Ok(0) => Input::Whole(size),
         Ok(_) if full => Input::Longer(size),
         Ok(_) => {
-            text(&rt.stderr(), name);
-            let _ = rt.eprintln(": not read to its end");
+            tell(rt, name);
+            tell(rt, b": not read to its end\n");
             Input::Broken { size, more: true }
         }
         Err(e) => {
@@ -305,8 +354,8 @@ pub fn kept_or_changed(out: &impl Print, same: bool) {
 }
 
 // The line of a refused job, which must leave every byte of both areas.
-pub fn refused_job(out: &impl Print, refusal: Refusal, work: &[u8], res: &[u8]) {
-    refused(out, refusal);
+pub fn refused_job(out: &impl Print, rule: u8, at: usize, work: &[u8], res: &[u8]) {
+    refused(out, rule, at);
     kept_or_changed(out, kept(work, BLANK) && kept(res, BLANK));
 }
 

@@ -75,7 +75,7 @@ fn run(rt: &impl Print, told: Told, lent: Lent)
     let mut result = [BLANK; AREA];
     let room = told.room;
     let size = told.size;
-    let outcome = calls::call(told.kind, lent, &mut work[..room], &mut result[..size]);
+    let outcome = calls::make(told.kind, lent, &mut work[..room], &mut result[..size]);
     printing::outcome(rt, outcome);
     printing::text(rt, b"\n");
     print_result(rt, &result, size);

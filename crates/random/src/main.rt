@@ -4,7 +4,7 @@
 
 ghost use Rattle.std.specs.Prelude.{◌≤◌};
 
-use printing::Input;
+use printing::{Input, tell};
 use rules::{Refusal, Rule};
 
 // As long as the longest test.dat that `grader` reads.
@@ -43,18 +43,25 @@ fn tell_refused(rt: &HostRuntime, refusal: Refusal) {
     let number = refusal.rule.number();
     let at = refusal.at;
     let words = words_of(refusal.rule);
-    let _ = eprint!(rt; "random: refused {number} {at}: ");
+    tell(rt, b"random: refused ");
+    let _ = rt.eprint(number);
+    tell(rt, b" ");
+    let _ = rt.eprint(at);
+    tell(rt, b": ");
     if is_on_record(refusal.rule) {
-        let _ = eprint!(rt; "record {at} of circuit.dat, counted from 0, has ");
+        tell(rt, b"record ");
+        let _ = rt.eprint(at);
+        tell(rt, b" of circuit.dat, counted from 0, has ");
     }
-    let _ = eprintln!(rt; "{words}");
+    tell(rt, words.as_bytes());
+    tell(rt, b"\n");
 }
 
 // The test that stands at the beginning of the area.
 fn write(rt: &HostRuntime, test: &[u8; TEST], size: usize)
     requires { size ≤ 65536 }
 {
-    printing::deliver(rt, &test[..size], "random: cannot write the test");
+    printing::deliver(rt, &test[..size], b"random: cannot write the test\n");
 }
 
 // The circuit's test, or why there is none.
@@ -71,7 +78,7 @@ fn make_for_file(rt: &HostRuntime, seed: u16, units: usize) {
     let mut circuit = [0u8; 65536];
     match printing::read_file(rt, b"circuit.dat", &mut circuit) {
         Input::Missing => {
-            let _ = rt.eprintln("random: there is no file circuit.dat in this folder");
+            tell(rt, b"random: there is no file circuit.dat in this folder\n");
         }
         Input::Whole(size) | Input::Longer(size) => make(rt, &circuit[..size], seed, units),
         Input::Broken { .. } => {}
@@ -86,30 +93,36 @@ fn argument(rt: &HostRuntime, i: usize) -> Option<usize> {
 }
 
 // An argument that is no number of its range.
-fn bad(rt: &HostRuntime, range: &str) {
-    let _ = eprintln!(rt; "random: {range}, in decimal or as 0x and hexadecimal digits");
+fn bad(rt: &HostRuntime, range: &[u8]) {
+    tell(rt, b"random: ");
+    tell(rt, range);
+    tell(rt, b", in decimal or as 0x and hexadecimal digits\n");
 }
 
 // The time units, of a seed that is told.
 fn with_seed(rt: &HostRuntime, seed: u16) {
     match argument(rt, 2) {
-        None => bad(rt, "the time units are not a number from 1 to 1024"),
+        None => bad(rt, b"the time units are not a number from 1 to 1024"),
         Some(units) => make_for_file(rt, seed, units),
     }
 }
 
 fn usage(rt: &HostRuntime) {
-    let _ = rt.eprintln("usage: random SEED UNITS");
-    let _ = rt.eprintln(
-        "writes a test of UNITS time units, 1 to 1024, for the circuit in circuit.dat to standard output",
+    tell(rt, b"usage: random SEED UNITS\n");
+    tell(
+        rt,
+        b"writes a test of UNITS time units, 1 to 1024, for the circuit in circuit.dat to standard output\n",
     );
-    let _ = rt.eprintln("SEED is 1 to 65535; each is in decimal or 0x and hexadecimal digits");
+    tell(
+        rt,
+        b"SEED is 1 to 65535; each is in decimal or 0x and hexadecimal digits\n",
+    );
 }
 
 // The test that the two arguments tell.
 fn run(rt: &HostRuntime) {
     match argument(rt, 1).and_then(|seed| u16::try_from(seed).ok()) {
-        None => bad(rt, "the seed is not a number from 1 to 65535"),
+        None => bad(rt, b"the seed is not a number from 1 to 65535"),
         Some(seed) => with_seed(rt, seed),
     }
 }

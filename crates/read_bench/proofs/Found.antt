@@ -1,5 +1,5 @@
 -- What is found of a text: that it is refused, or its lines.
-use mathlib.Core.Path.{◌≡◌, refl, sym, ◌∙◌}
+use mathlib.Core.Path.{◌≡◌, refl, sym, ap, ◌∙◌}
 use mathlib.Core.Bool.{Bool, true, false, not, ◌||◌}
 use mathlib.Core.List.{List}
 use mathlib.Core.Option.{none, some, some-ne-none}
@@ -24,6 +24,15 @@ use Rattle.job.specs.Job.{answer_of}
 use Rattle.job.proofs.Laws.{handed_on, refuses}
 use Rattle.lookup.specs.Lookup.{Held}
 use Rattle.read_bench.specs.Noted.{Inspected}
+
+-- what an answer that is one of the two cases stands for
+pub done-told : {r : Result ℕ Refusal} {n : ℕ} → r ≡ Ok n → answer_of r ≡ done n
+unfolding answer_of
+done-told e = ap answer_of e
+
+pub refused-told : {r : Result ℕ Refusal} {e : Refusal} → r ≡ Err e → answer_of r ≡ refused (number_of e.rule) e.at
+unfolding answer_of
+refused-told e = ap answer_of e
 
 refused-done : (rule at n : ℕ) → refused rule at ≡ done n → ⊥
 refused-done rule at n e = let z : ◌≡◌ {A = ℕ} 0 1 = cc in (let w : ⊥ = omega arith in w)
@@ -83,11 +92,11 @@ module _ {text names heads records : List ℕ} where
 
 -- ---- the part that is line n's name: of a number that is no line, or of a text that is refused, the empty one
 module _ (text : List ℕ) (n : ℕ) where
-  part-refused : (q : ℕ × ℕ) → text_refusal text ≡ some q → name_part text n ≡ no_part
+  pub part-refused : (q : ℕ × ℕ) → text_refusal text ≡ some q → name_part text n ≡ no_part
   unfolding name_part part_unless
   part-refused q e = rw e
 
-  part_none : text_refusal text ≡ none → line_count text ≤ n → name_part text n ≡ no_part
+  pub part_none : text_refusal text ≡ none → line_count text ≤ n → name_part text n ≡ no_part
   unfolding name_part part_unless
   part_none e h = rw (e, le-ltb n (line_count text) h)
 

@@ -6,12 +6,11 @@ use mathlib.Core.List.{List, [], ◌∷◌}
 use lib.Dec.{eqb}
 use lib.ListN.{get_or, length, take}
 use lib.Seq.{get_or-take, length-take-le}
+use mir.Val.{bool_byte}
 use native.Mathlib.Omega.{arith}
 use borrow.Author.Tests.{ne_eqb}
 use Rattle.lists.proofs.Tests.{or_left_false, or_right_false}
 use Rattle.lists.proofs.Scan.{get_or_any}
-use Rattle.std.specs.List.{list_any, zip, count_by}
-use Rattle.std.proofs.lemmas.List.Recursion.{is_count_by}
 use Rattle.model.specs.Accepted.{ThreeValued}
 use Rattle.model.specs.Values.{X, is_specified, opposes, some_oppose, give, give_row}
 use Rattle.model.specs.Implication.{where_x}
@@ -56,20 +55,28 @@ pub opposing_more : (xs ys : List ℕ) (s : ℕ) (found here : Bool) → s < len
     → (found || here) ≡ some_oppose (take (s + 1) xs) (take (s + 1) ys)
 opposing_more = some_more opposes some_oppose (unfold some_oppose in refl) (λ a b xs ys. unfold some_oppose in refl)
 
--- ---- rows that are searched and counted
-pub overlaps-any : (xs ys : List ℕ) → list_any (λ (p : ℕ × ℕ). is_specified p.0 && is_specified p.1) (zip xs ys) ≡ overlaps xs ys
-unfolding overlaps
-overlaps-any [] ys = refl
-overlaps-any (a ∷ xs) [] = refl
-overlaps-any (a ∷ xs) (b ∷ ys) = ap (λ rest. (is_specified a && is_specified b) || rest) (overlaps-any xs ys)
+pub overlap_more : (xs ys : List ℕ) (s : ℕ) (found here : Bool) → s < length xs → s < length ys → here ≡ (is_specified (get_or xs s 0) && is_specified (get_or ys s 0))
+    → found ≡ overlaps (take s xs) (take s ys) → (found || here) ≡ overlaps (take (s + 1) xs) (take (s + 1) ys)
+overlap_more = some_more (λ a b. is_specified a && is_specified b) overlaps (unfold overlaps in refl) (λ a b xs ys. unfold overlaps in refl)
 
-one_more : (b : Bool) (n : ℕ) → cond b 1 0 + n ≡ cond b (1 + n) n
-one_more true n = refl
-one_more false n = omega arith
+-- ---- how many places are specified
+-- a test's number
+pub test-number : (b : Bool) → bool_byte b ≡ cond b 1 0
+test-number true = refl
+test-number false = refl
 
-pub size-count : (xs : List ℕ) → size xs ≡ count_by is_specified xs
+pub number-most : (b : Bool) → bool_byte b ≤ 1
+number-most true = omega arith
+number-most false = omega arith
+
+pub size-more : (xs : List ℕ) (s found here : ℕ) → s < length xs → here ≡ cond (is_specified (get_or xs s 0)) 1 0 → found ≡ size (take s xs) → found + here ≡ size (take (s + 1) xs)
 unfolding size
-size-count = is_count_by size is_specified refl (λ a xs. one_more (is_specified a) (size xs))
+size-more [] s found here h e p = absurd (let z : ⊥ = omega arith in z)
+size-more (a ∷ xs) zero found here h e p = rw (e, p) (omega arith)
+size-more (a ∷ xs) (suc s) found here h e p =
+    let next : suc s + 1 ≡ suc (s + 1) = omega arith in
+    let tail : size (take s xs) + here ≡ size (take (s + 1) xs) = size-more xs s _ here (omega arith) e refl in
+    rw next (omega (arith, p, tail))
 
 -- ---- a row made of two, place by place
 module _ (g : ℕ → ℕ → ℕ) (Row : List ℕ → List ℕ → List ℕ) (more : (a b : ℕ) (xs ys : List ℕ) → Row (a ∷ xs) (b ∷ ys) ≡ g a b ∷ Row xs ys) where

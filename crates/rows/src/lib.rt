@@ -74,21 +74,28 @@ pub fn give_row(extra: &[u8], count: usize, row: &mut [u8]) -> bool
     found
 }
 
-// How many places are specified.
+// How many places are specified. No turn branches on what the row holds: `filter` and `count` do, and on rows of 0, 1 and X mixed they take some
+// six times as long.
 pub fn specified(row: &[u8], count: usize) -> usize
     requires { count ≤ length row.now }
     ensures { (result ≡ size (take count row.now)) × (result ≤ count) }
 {
-    row[..count].iter().filter(|value| **value <= 1).count()
+    let mut found: usize = 0;
+    for s in 0..count {
+        found += usize::from(row[s] <= 1);
+    }
+    found
 }
 
-// Some place is specified in both rows.
+// Some place is specified in both rows. Every place is compared, many at once by the machine: `any`, which ends at the first, compares one at a time,
+// and makes Choose and the plan's pairs of Grade several times slower where rows are long (docs/DESIGN-PASS.md, Speed).
 pub fn overlap(a: &[u8], b: &[u8], count: usize) -> bool
     requires { (count ≤ length a.now) × (count ≤ length b.now) }
     ensures { result ≡ overlaps (take count a.now) (take count b.now) }
 {
-    a[..count]
-        .iter()
-        .zip(&b[..count])
-        .any(|(a, b)| *a <= 1 && *b <= 1)
+    let mut found = false;
+    for s in 0..count {
+        found |= (a[s] <= 1) & (b[s] <= 1);
+    }
+    found
 }

@@ -36,7 +36,7 @@ fn respond(
     match simulate::simulate(circuit, test, fault, &mut work, res) {
         Ok(size) => (size <= res.len()).then_some(size),
         Err(refusal) => {
-            printing::refused(rt, refusal);
+            printing::refused(rt, refusal.rule.number(), refusal.at);
             printing::text(rt, b"\n");
             None
         }

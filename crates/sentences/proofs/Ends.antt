@@ -1,14 +1,10 @@
 -- Where a text line ends, where its comment begins, and its tokens.
-use mathlib.Core.Path.{◌≡◌, refl, sym, ap, ◌∙◌}
+use mathlib.Core.Path.{◌≡◌, sym, ap, ◌∙◌}
 use mathlib.Core.List.{List, [], ◌∷◌}
-use Rattle.std.specs.Prelude.{Some, None}
-use Rattle.std.specs.List.{position, position_or_len}
-use lib.Dec.{eqb, ltb}
-use Rattle.lists.proofs.Tests.{by-test}
 use Prim.Native.Nat.{ℕ, ◌+◌, ◌-◌, ◌≤◌, ◌<◌}
 use native.Mathlib.Numerals.{add-one}
 use Rattle.std.proofs.Common.{add-zero}
-use borrow.Author.Tests.{eq-eqb, ne_eqb, ltb-false}
+use borrow.Author.Tests.{eq-eqb, ne_eqb}
 use native.Mathlib.Omega.{arith}
 use lib.ListN.{get_or, length, take, drop, length-drop, length-take}
 use lib.Seq.{take_all, take-take}
@@ -81,22 +77,3 @@ tokens-kept text at parts few e =
       some = λ i h. rw (← get_or_kept parts (length parts) i h, e) (line-token text at i (rw (← e, length-kept) h)).lies.some;
       ends = λ i h. rw (← get_or_kept parts (length parts) i h, e) (line-token text at i (rw (← e, length-kept) h)).lies.ends;
     }
-
--- ---- the library's search
--- the bytes before the first of a kind are as many as its place tells
-pub up_to-position : (byte : ℕ) (xs : List ℕ) → position_or_len (λ x. eqb x byte) xs ≡ length (up_to byte xs)
-unfolding up_to
-up_to-position byte [] = refl
-up_to-position byte (x ∷ xs) = by-test (eqb x byte) (λ e. rw e) (λ e. rw (e, up_to-position byte xs) (omega arith))
-
-pub place-found : (byte : ℕ) (xs : List ℕ) (i : ℕ) → position (λ x. eqb x byte) xs ≡ Some i → i ≡ length (up_to byte xs)
-place-found byte xs i e =
-    by-test (ltb (position_or_len (λ x. eqb x byte) xs) (length xs))
-    (λ t. let f = rw t at e in (let g : position_or_len (λ x. eqb x byte) xs ≡ i = cc in sym g ∙ up_to-position byte xs))
-    (λ t. let f = rw t at e in absurd (cc))
-
-pub place-missing : (byte : ℕ) (xs : List ℕ) → position (λ x. eqb x byte) xs ≡ None → length (up_to byte xs) ≡ length xs
-place-missing byte xs e =
-    by-test (ltb (position_or_len (λ x. eqb x byte) xs) (length xs))
-    (λ t. let f = rw t at e in absurd (cc))
-    (λ t. omega (arith, ltb-false _ _ t, up_to-position byte xs, up_to-length byte xs))

@@ -229,10 +229,12 @@ fn find(text: &[u8], at: usize, end: usize, byte: u8) -> usize
     requires { (at ≤ end) × (end ≤ length text.now) }
     ensures { result ≡ at + length (up_to byte (take (end - at) (drop at text.now))) }
 {
-    match text[at..end].iter().position(|b| *b == byte) {
-        Some(i) => at + i,
-        None => end,
+    for i in at..end {
+        if text[i] == byte {
+            return i;
+        }
     }
+    end
 }
 
 // What the text line that begins here says; its tokens are put into `parts`.

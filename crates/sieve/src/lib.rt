@@ -13,7 +13,7 @@ ghost use Rattle.sieve.specs.Sieve.{early, noted, WrittenTo, NotedTo, SievedAll,
 use plain::Firsts;
 use record::Verdict;
 use run::Setup;
-use stages::{LaneFaults, Space};
+use stages::LaneFaults;
 
 // So many units come first. In a short test none do: its faults are run to the end at once.
 fn early_units(units: usize) -> usize
@@ -57,7 +57,9 @@ fn sieve_batch(
     units: usize,
     free: &[u8],
     given: &mut LaneFaults,
-    space: &mut Space,
+    feed: &mut [u64; 512],
+    words: &mut [u64; 8192],
+    state: &mut [u64; 512],
     res: &mut [u8],
 )
     requires { (IsTabled setup.now) × (Standing setup.now.circuit.now setup.now.test.now free.now) × (Blank given.old.hits given.old.masks)
@@ -73,9 +75,9 @@ fn sieve_batch(
         free,
         &mut given.hits,
         &mut given.masks,
-        &mut space.feed,
-        &mut space.words,
-        &mut space.state,
+        feed,
+        words,
+        state,
     );
     write_early(from, count, &firsts, res);
 }
@@ -86,7 +88,9 @@ pub fn sieve(
     fs: &[u8],
     free: &[u8],
     given: &mut LaneFaults,
-    space: &mut Space,
+    feed: &mut [u64; 512],
+    words: &mut [u64; 8192],
+    state: &mut [u64; 512],
     res: &mut [u8],
 )
     requires { (IsTabled setup.now) × (Standing setup.now.circuit.now setup.now.test.now free.now) × (Blank given.old.hits given.old.masks)
@@ -97,7 +101,9 @@ pub fn sieve(
     let units = early_units(setup.job.units);
     for from in (0..count).step_by(64) {
         let size = tally::block(count - from);
-        sieve_batch(setup, fs, from, size, units, free, given, space, res);
+        sieve_batch(
+            setup, fs, from, size, units, free, given, feed, words, state, res,
+        );
     }
 }
 

@@ -11,6 +11,7 @@ ghost use Rattle.job.specs.Job.{answer_of, JobOf};
 ghost use Rattle.unit.specs.Unit.{Stuck, MaskRoom};
 
 use job::{Job, Outcome};
+use rules::Refusal;
 use run::Setup;
 use unit::GivenFaults;
 
@@ -79,7 +80,12 @@ pub fn simulate(
     ensures writes { res.new ≡ simulate_area circuit.now test.now faults.now (length work.old) res.old }
     ensures keeps { work.new ≡ work.old }
 {
-    let job = job::check_simulate(circuit, test, faults, work.len(), res.len())?;
-    respond(circuit, job, test, faults, res);
-    Ok(job.units * job.outputs)
+    // A match and no `?`, so that the edit `position_lost` can change the position alone.
+    match job::check_simulate(circuit, test, faults, work.len(), res.len()) {
+        Ok(job) => {
+            respond(circuit, job, test, faults, res);
+            Ok(job.units * job.outputs)
+        }
+        Err(Refusal { rule, at }) => Err(Refusal { rule, at }),
+    }
 }

@@ -45,7 +45,9 @@ fn run(rt: &impl Print, circuit: &[u8], test: &[u8], faults: &[u8], room: usize,
     );
     match outcome {
         Ok(n) => print_done(rt, n, &result),
-        Err(refusal) => printing::refused_job(rt, refusal, &work, &result),
+        Err(refusal) => {
+            printing::refused_job(rt, refusal.rule.number(), refusal.at, &work, &result);
+        }
     }
 }
 

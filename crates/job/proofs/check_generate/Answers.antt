@@ -14,14 +14,13 @@ use Rattle.model.specs.Generate.{generate_answer}
 use Rattle.model.proofs.Accepted.{valid_circuit, units-fit}
 use Rattle.circuit.specs.Table.{SizesOf}
 use Rattle.rules.specs.Check.{refusal_of}
-use Rattle.rules.proofs.Laws.{went_on}
+use Rattle.rules.proofs.Laws.{passed_none, sized-none, went_on}
 use Rattle.job.proofs.Laws.{refuses}
 use Rattle.job.proofs.check_generate.Goals.{In_ok-s}
 use Rattle.job.proofs.check_generate.Goals as goal
 
 valid : (c : In_ok-s) → ValidCircuit c.args.c.now
-unfolding refusal_of
-valid c = valid_circuit _ (sym c.in_ok-s.ensures.refusal)
+valid c = valid_circuit _ (sized-none c.in_ok-s.ensures refl)
 
 sizes : (c : In_ok-s) → SizesOf c.args.c.now c.in_ok-s.s
 sizes c = c.in_ok-s.ensures.sizes _ refl
@@ -45,11 +44,10 @@ returns-in_err-check_load c =
     rw grouped (refuses _ h (went_on c.in_ok-s.ensures.refusal (sym (else_found _ _ _ (sym c.in_err-check_load.ensures)))))
 
 pub overflow_mul-units : goal.overflow_mul-units
-unfolding refusal_of
 overflow_mul-units c =
     let ok = (goal.at.overflow_mul-units c).In_ok-s in
     let few : c.in_ok-s.s.inputs ≤ 256 = rw (sizes ok).inputs (valid ok).inputs in
-    let most = (units-fit _ ((or_else-eq-none (row16 _) _).0 (sym c.in_ok-check_load.ensures)).1).1 in
+    let most = (units-fit _ ((or_else-eq-none (row16 _) _).0 (passed_none c.in_ok-check_load.ensures refl)).1).1 in
     omega (arith, mul-le-mul most few)
 
 pub returns : goal.returns

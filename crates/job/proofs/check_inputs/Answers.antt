@@ -7,14 +7,13 @@ use Rattle.model.specs.Refusals.{input_rows}
 use Rattle.model.proofs.Accepted.{valid_circuit}
 use Rattle.circuit.specs.Table.{SizesOf}
 use Rattle.rules.specs.Check.{refusal_of}
-use Rattle.rules.proofs.Laws.{ended, ended_early, went_on}
+use Rattle.rules.proofs.Laws.{sized-none, unsized_some, ended, ended_early, went_on}
 use Rattle.job.proofs.Laws.{is-ready, is_broken}
 use Rattle.job.proofs.check_inputs.Goals.{In_ok-s}
 use Rattle.job.proofs.check_inputs.Goals as goal
 
 valid : (c : In_ok-s) → ValidCircuit c.args.c.now
-unfolding refusal_of
-valid c = valid_circuit _ (sym c.in_ok-s.ensures.refusal)
+valid c = valid_circuit _ (sized-none c.in_ok-s.ensures refl)
 
 sizes : (c : In_ok-s) → SizesOf c.args.c.now c.in_ok-s.s
 sizes c = c.in_ok-s.ensures.sizes _ refl
@@ -23,10 +22,10 @@ some-input : (c : In_ok-s) → 0 < c.in_ok-s.s.inputs
 some-input c = rw (sizes c).inputs (valid c).some_input
 
 pub returns-in_err-s : goal.returns-in_err-s
-unfolding refusal_of input_rows
+unfolding input_rows
 returns-in_err-s c =
     let h = err_from_is_err_and c.from_residual.result c.from_residual.ensures.1 in
-    is_broken h (ended_early _ h c.in_err-s.ensures.refusal)
+    is_broken h (ended_early _ h (sym (unsized_some c.in_err-s.ensures refl)))
 
 pub check_units-requires : goal.check_units-requires
 check_units-requires c = some-input (goal.at.check_units-requires c).In_ok-s

@@ -3,11 +3,10 @@ use native.Mathlib.Nat.{mul-le-mul}
 use native.Mathlib.Omega.{arith}
 use Rattle.std.proofs.lemmas.Result.{err_from_is_err_and}
 use Rattle.model.specs.Refusals.{simulate_refusal}
-use Rattle.model.proofs.Accepted.{valid_inputs}
 use Rattle.rules.specs.Check.{refusal_of}
 use Rattle.rules.proofs.Laws.{ended, ended_early, went_on}
 use Rattle.job.specs.Job.{JobOf, Limited}
-use Rattle.job.proofs.Laws.{is-ready, is_broken, limited}
+use Rattle.job.proofs.Laws.{is-ready, is_broken, ready_limits}
 use Rattle.job.proofs.check_simulate.Goals.{In_ok-job}
 use Rattle.job.proofs.check_simulate.Goals as goal
 
@@ -15,8 +14,7 @@ job : (c : In_ok-job) → JobOf c.args.c.now c.args.t.now c.in_ok-job.job
 job c = c.in_ok-job.ensures.job _ refl
 
 limits : (c : In_ok-job) → Limited c.in_ok-job.job
-unfolding refusal_of
-limits c = limited (valid_inputs _ _ _ _ _ (sym c.in_ok-job.ensures.refusal)) (job c)
+limits c = ready_limits _ 0 1 c.in_ok-job.ensures refl
 
 pub returns-in_err-job : goal.returns-in_err-job
 unfolding refusal_of simulate_refusal

@@ -1,11 +1,17 @@
-use Rattle.std.proofs.Common.{◌&&◌, ℕ, ◌∙◌, take, rules, tests}
-use Rattle.std.proofs.lemmas.Iterator.{YieldsList-from_zip, YieldsList-from_slice}
-use Rattle.std.proofs.lemmas.Iterator.Search.{any_from_yields_List}
-use Rattle.model.specs.Values.{is_specified}
-use Rattle.rows.proofs.Turns.{overlaps-any}
+use mathlib.Core.Path.{◌≡◌, refl}
+use native.Mathlib.Omega.{arith}
+use Rattle.model.specs.Sequences.{overlaps}
+use Rattle.rows.proofs.Turns.{overlap_more}
 use Rattle.rows.proofs.overlap.Goals as goal
+
+pub loop-s-init : goal.loop-s-init
+unfolding overlaps
+loop-s-init c = refl
+
+pub loop-s-preserved : goal.loop-s-preserved
+loop-s-preserved c = overlap_more c.args.a.now c.args.b.now c.loop-s.s c.loop-s.found _ (omega arith) (omega arith) refl c.loop-s.invariant
 
 pub returns : goal.returns
 returns c =
-    any_from_yields_List (λ (p : ℕ × ℕ). is_specified p.0 && is_specified p.1) c.any.new.self _ _ c.any.ensures.ran (YieldsList-from_zip (YieldsList-from_slice (take c.args.count c.args.a.now) cc) (YieldsList-from_slice (take c.args.count c.args.b.now) cc)) (λ x b q k. search (rules, tests))
-    ∙ overlaps-any _ _
+    let end : c.loop-s.s ≡ c.args.count = omega arith in
+    rw (← end) c.loop-s.invariant
