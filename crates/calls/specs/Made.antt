@@ -1,6 +1,6 @@
 -- What each call answers and writes, by what is lent.
-use Rattle.std.specs.Prelude.{ℕ, List}
-use Rattle.model.specs.Refusals.{Answer}
+use Rattle.std.specs.Prelude.{ℕ, List, ◌≡◌, length}
+use Rattle.model.specs.Refusals.{Answer, unless_refused, grade_refusal, choose_refusal}
 use Rattle.model.specs.Simulate.{simulate_answer, simulate_area}
 use Rattle.model.specs.Grade.{grade_answer, grade_area}
 use Rattle.model.specs.Choose.{choose_answer, choose_area}
@@ -21,3 +21,10 @@ made_area Simulate c t fs plan vs k work old = simulate_area c t fs work old
 made_area Grade c t fs plan vs k work old = grade_area c t fs plan k work old
 made_area Choose c t fs plan vs k work old = choose_area c t fs k work old
 made_area Group c t fs plan vs k work old = group_area vs old
+
+-- what the work area holds afterwards, where it holds `new` and held `old`: a call that refuses leaves it, and so do Simulate and Group in any case
+abbrev pub kept_work : Kind → List ℕ → List ℕ → List ℕ → List ℕ → ℕ → ℕ → List ℕ → List ℕ → List ℕ
+kept_work Simulate c t fs plan k result new old = old
+kept_work Grade c t fs plan k result new old = unless_refused (grade_refusal c t fs plan k (length old) result) new old
+kept_work Choose c t fs plan k result new old = unless_refused (choose_refusal c t fs k (length old) result) new old
+kept_work Group c t fs plan k result new old = old

@@ -2,9 +2,10 @@
 #![tactic(auto)]
 
 ghost use Rattle.std.specs.Prelude.{◌≡◌, length};
+ghost use Rattle.model.specs.Group.{group_answer, group_area};
 ghost use Rattle.job.specs.Job.{answer_of};
-ghost use Rattle.calls.specs.Numbers.{Numbered};
-ghost use Rattle.calls.specs.Made.{made_answer, made_area};
+ghost use Rattle.calls.specs.Numbers.{Numbered, number_of};
+ghost use Rattle.calls.specs.Made.{made_answer, made_area, kept_work};
 
 use job::Outcome;
 
@@ -49,7 +50,12 @@ pub struct Lent<'a> {
 }
 
 // Makes the call of this number; for a number that no call has, Group.
-pub fn call(number: u8, lent: Lent, work: &mut [u8], res: &mut [u8]) -> Outcome {
+pub fn call(number: u8, lent: Lent, work: &mut [u8], res: &mut [u8]) -> Outcome
+    ensures answers { (kind : Kind) → number_of kind ≡ number → answer_of result ≡ made_answer kind lent.entry.circuit.now lent.entry.test.now lent.entry.faults.now lent.entry.plan.now lent.entry.verdicts.now lent.entry.k (length work.old) (length res.old) }
+    ensures writes { (kind : Kind) → number_of kind ≡ number → res.new ≡ made_area kind lent.entry.circuit.now lent.entry.test.now lent.entry.faults.now lent.entry.plan.now lent.entry.verdicts.now lent.entry.k (length work.old) res.old }
+    ensures keeps { (kind : Kind) → number_of kind ≡ number → work.new ≡ kept_work kind lent.entry.circuit.now lent.entry.test.now lent.entry.faults.now lent.entry.plan.now lent.entry.k (length res.old) work.new work.old }
+    ensures other { ((kind : Kind) → number_of kind ≡ number → ⊥) → (answer_of result ≡ group_answer lent.entry.verdicts.now (length res.old)) × (res.new ≡ group_area lent.entry.verdicts.now res.old) × (work.new ≡ work.old) }
+{
     make(
         Kind::try_from(number).unwrap_or(Kind::Group),
         lent,
@@ -62,6 +68,7 @@ pub fn call(number: u8, lent: Lent, work: &mut [u8], res: &mut [u8]) -> Outcome 
 pub fn make(kind: Kind, lent: Lent, work: &mut [u8], res: &mut [u8]) -> Outcome
     ensures answers { answer_of result ≡ made_answer kind lent.entry.circuit.now lent.entry.test.now lent.entry.faults.now lent.entry.plan.now lent.entry.verdicts.now lent.entry.k (length work.old) (length res.old) }
     ensures writes { res.new ≡ made_area kind lent.entry.circuit.now lent.entry.test.now lent.entry.faults.now lent.entry.plan.now lent.entry.verdicts.now lent.entry.k (length work.old) res.old }
+    ensures keeps { work.new ≡ kept_work kind lent.entry.circuit.now lent.entry.test.now lent.entry.faults.now lent.entry.plan.now lent.entry.k (length res.old) work.new work.old }
 {
     let Lent {
         circuit,
